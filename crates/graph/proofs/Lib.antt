@@ -1,0 +1,18 @@
+-- Facts about specs/ that the proofs of this crate and of the crates above cite. First what is claimed of whole calls, then what
+-- the proofs of single functions go by.
+pub mod Bridge
+pub mod WellFormed
+pub mod RoundTrip
+pub mod FileLists
+pub mod EncodeFacts
+pub mod HeaderFacts
+pub mod ScanFacts
+pub mod WordRuns
+pub mod WalkFacts
+pub mod MarkFacts
+pub mod FillFacts
+pub mod ReadFacts
+pub mod InView
+pub mod WellFormedRows
+pub mod Encoding
+pub mod Storing

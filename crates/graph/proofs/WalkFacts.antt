@@ -1,0 +1,61 @@
+-- A walk along the chains, vertex by vertex: the records that are still to come, and how they are met one at a time. Both walks of the
+-- reader, the one that marks and the one that writes rows, go by these facts.
+use mathlib.Core.Path.{_≡_, refl, sym, ap, _∙_}
+use mathlib.Core.List.{List, [], _∷_, _++_, map}
+use Prim.Native.Nat.{ℕ, zero, suc, _+_, _*_, _-_, _≤_, _<_}
+use native.Mathlib.Nat.{sub-zero}
+use native.Mathlib.Omega.{arith}
+use lib.ListN.{length}
+use Rattle.lists.specs.Lists.{range, concat}
+use Rattle.graph.specs.File.{word, vertexCount, edgeCount, head, target, next, chain, chains}
+use Rattle.graph.specs.Steps.{Sized}
+
+-- the chain of vertex u
+unfoldable pub chainOf : List ℕ → ℕ → List ℕ
+chainOf file u = chain file (suc (edgeCount file)) (head file u)
+
+-- the chains of the vertices from u on
+unfoldable pub chainsFrom : List ℕ → ℕ → List (List ℕ)
+chainsFrom file u = map (chainOf file) (range u (vertexCount file - u))
+
+-- at vertex 0 they are all
+pub chains-all : (file : List ℕ) → chains file ≡ chainsFrom file 0
+unfolding chainsFrom chains chainOf
+chains-all file = rw (sub-zero (vertexCount file))
+
+-- the next vertex's chain comes first
+pub chains-next : (file : List ℕ) (u : ℕ) → u < vertexCount file → chainsFrom file u ≡ chainOf file u ∷ chainsFrom file (suc u)
+unfolding chainsFrom range
+chains-next file u h = rw more
+  where
+    more : vertexCount file - u ≡ suc (vertexCount file - suc u)
+    more = omega arith
+
+-- after the last vertex there is none
+pub chains-none : (file : List ℕ) (u : ℕ) → vertexCount file ≤ u → chainsFrom file u ≡ []
+unfolding chainsFrom range
+chains-none file u h = rw none
+  where
+    none : vertexCount file - u ≡ 0
+    none = omega arith
+
+-- a chain ends at 0
+pub chain-end : (file : List ℕ) (steps : ℕ) → chain file steps 0 ≡ []
+unfolding chain
+chain-end file zero = refl
+chain-end file (suc steps) = refl
+
+-- and goes on at any other index
+pub chain-step : (file : List ℕ) (steps r : ℕ) → (r ≡ 0 → ⊥) → chain file (suc steps) r ≡ r ∷ chain file steps (next file r)
+unfolding chain
+chain-step file steps zero h = absurd (h refl)
+chain-step file steps (suc r) h = refl
+
+-- the words of record r, counted from n
+pub target-word : {file : List ℕ} {n m : ℕ} → Sized file n m → (r : ℕ) → word file (n + 2 * r) ≡ target file r
+unfolding target
+target-word {file} s r = ap (λ (k : ℕ). word file (k + 2 * r)) (s .vertices)
+
+pub next-word : {file : List ℕ} {n m : ℕ} → Sized file n m → (r : ℕ) → word file (n + 2 * r + 1) ≡ next file r
+unfolding next
+next-word {file} s r = ap (λ (k : ℕ). word file (k + 2 * r + 1)) (s .vertices)

@@ -1,0 +1,66 @@
+-- `graph::steps::unchain` meets its contract: what the survey finds decides whether rows are written.
+use borrow.Author.Needs.{needs}
+use borrow.Author.Tests.{ne-eqb}
+use mathlib.Core.Path.{_≡_, refl, sym, _∙_}
+use mathlib.Core.Bool.{cond}
+use mathlib.Core.List.{List}
+use Prim.Native.Nat.{ℕ}
+use Rattle.graph.specs.Read.{writesRows}
+use Rattle.graph.proofs.steps.unchain.Statement.{statement}
+use Rattle.graph.proofs.steps.unchain.Tie as tie
+use Rattle.graph.proofs.steps.unchain.Reads as reads
+use Rattle.graph.proofs.steps.unchain.Lts as lts
+use Rattle.graph.proofs.steps.survey.Reads as survey-reads
+use Rattle.graph.proofs.steps.fill.Reads as fill-reads
+
+-- with a refusal no rows are written
+unwritten : (number : ℕ) (new old : List ℕ) → (number ≡ 0 → ⊥) → old ≡ cond (writesRows number) new old
+unfolding writesRows
+unwritten number new old h = rw (ne-eqb number 0 h)
+
+survey-requires : tie.Need-survey-requires
+survey-requires c κs = search needs
+
+same-length : tie.Need-same-length
+same-length c = search needs
+
+returns : tie.Need-returns
+returns c =
+    let survey = c .before .before .before .survey in
+    let refused : survey .result ≡ 0 → ⊥ = c .if1 .taken in
+    record {
+      judged = survey .ensures .0;
+      starts = unwritten (survey .result) _ _ refused;
+      ends = unwritten (survey .result) _ _ refused;
+      cleared = survey .ensures .1;
+    }
+
+fill-requires : tie.Need-fill-requires
+fill-requires c κs =
+    let surveyed = c .before .before .before .before .before in
+    let start = surveyed .before .before .before .before .before .before in
+    (record { scanned = start .pre .0; whole = sym (surveyed .survey .ensures .0) ∙ c .before .before .if1 .left }, (start .pre .1 .0, start .pre .1 .1 .0))
+
+same-length-2 : tie.Need-same-length-2
+same-length-2 c = search needs
+
+same-length-3 : tie.Need-same-length-3
+same-length-3 c = search needs
+
+same-length-4 : tie.Need-same-length-4
+same-length-4 c = search needs
+
+returns-2 : tie.Need-returns-2
+unfolding writesRows
+returns-2 c =
+    let filled = c .before .before .before .before in
+    let surveyed = filled .before .before .before .before .before .before in
+    record {
+      judged = sym (filled .before .before .before .if1 .left) ∙ surveyed .survey .ensures .0;
+      starts = filled .fill .ensures .0;
+      ends = filled .fill .ensures .1;
+      cleared = surveyed .survey .ensures .1;
+    }
+
+pub unchain-spec : {M : Type 1} → statement M
+unchain-spec = tie.close (tie.spec survey-requires same-length returns fill-requires same-length-2 same-length-3 same-length-4 returns-2)

@@ -1,0 +1,25 @@
+-- What the links view and its sister call give, for every offsets, targets and vertex.
+use Prim.Native.Nat.{ℕ, _+_, _-_}
+use mathlib.Core.Bool.{Bool, cond, not, _||_}
+use mathlib.Core.List.{List, [], _∷_}
+use lib.Dec.{ltb}
+use lib.ListN.{length, getD, take, drop}
+use Rattle.numbers.specs.Numbers.{badRows}
+use Rattle.numbers.specs.Refusals.{Refusal, _gives_, first}
+
+-- 11 of the view: "fewer than 2 offsets, device not under offsets length less one, or its two offsets fall or pass the end of targets"
+unfoldable pub outOfView : List ℕ → List ℕ → ℕ → Bool
+outOfView offsets targets u =
+    ltb (length offsets) 2
+    || not (ltb u (length offsets - 1))
+    || ltb (getD offsets (u + 1) 0) (getD offsets u 0)
+    || ltb (length targets) (getD offsets (u + 1) 0)
+
+-- the sister call's number
+unfoldable pub linksNumber : List ℕ → List ℕ → ℕ → ℕ
+linksNumber offsets targets u = first (outOfView offsets targets u gives badRows ∷ [])
+
+-- "the part of the targets list itself that belongs to the device, or an empty part where number 11 holds"
+unfoldable pub linksOf : List ℕ → List ℕ → ℕ → List ℕ
+linksOf offsets targets u =
+    cond (outOfView offsets targets u) [] (take (getD offsets (u + 1) 0 - getD offsets u 0) (drop (getD offsets u 0) targets))

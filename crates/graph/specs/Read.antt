@@ -1,0 +1,94 @@
+-- What `read` answers and leaves, for every file and every lent list. The order of refusals is `readRefusals`.
+use Prim.Native.Nat.{ℕ, suc, _+_}
+use mathlib.Core.Bool.{Bool, cond, not, _||_}
+use mathlib.Core.List.{List, [], _∷_, _++_}
+use lib.Dec.{ltb, eqb}
+use lib.ListN.{length, replicate}
+use Rattle.numbers.specs.Numbers.{maxVertices, maxEdges, success, badLength, badSize, badTarget, badIndex, repeated, unreached, shortList}
+use Rattle.numbers.specs.Refusals.{Refusal, _gives_, first}
+use Rattle.lists.specs.Lists.{overlay, range, elem, repeats, lacks, reaches}
+use Rattle.graph.specs.Graph.{offsetsOf, targetsOf}
+use Rattle.graph.specs.File.{vertexCount, edgeCount, fileLength, heads, recordTargets, recordNexts, reached, graphOf}
+use Rattle.graph.specs.declared.ReadAnswer.{ReadAnswer}
+
+-- "devices n 1 to 4,096", "links m 0 to 32,768"
+unfoldable pub outsideSizes : ℕ → ℕ → Bool
+outsideSizes n m = eqb n 0 || ltb maxVertices n || ltb maxEdges m
+
+-- 1 (under 4), 2, 1 (length)
+unfoldable pub headerRefusals : List ℕ → List Refusal
+headerRefusals file =
+    ltb (length file) 4 gives badLength
+    ∷ outsideSizes (vertexCount file) (edgeCount file) gives badSize
+    ∷ not (eqb (length file) (fileLength (vertexCount file) (edgeCount file))) gives badLength
+    ∷ []
+
+-- 4, 3: judged over all heads and records, reached or not
+unfoldable pub scanRefusals : List ℕ → List Refusal
+scanRefusals file =
+    reaches (suc (edgeCount file)) (heads file ++ recordNexts file) gives badIndex
+    ∷ reaches (vertexCount file) (recordTargets file) gives badTarget
+    ∷ []
+
+-- 5, 6
+unfoldable pub chainRefusals : List ℕ → List Refusal
+chainRefusals file =
+    repeats (reached file) gives repeated
+    ∷ lacks (range 1 (edgeCount file)) (reached file) gives unreached
+    ∷ []
+
+-- "Needs: offsets n + 1, targets and marks m", by the lists' lengths
+unfoldable pub rowsShort : ℕ → ℕ → ℕ → ℕ → ℕ → Bool
+rowsShort n m offsets targets marks = ltb offsets (n + 1) || ltb targets m || ltb marks m
+
+-- "Order: 1 (under 4), 2, 1 (length), 4, 3, .., 20, 5, 6": the reader's part of it
+unfoldable pub readRefusals : List ℕ → List ℕ → List ℕ → List ℕ → List Refusal
+readRefusals file offsets targets marks =
+    headerRefusals file
+    ++ scanRefusals file
+    ++ (rowsShort (vertexCount file) (edgeCount file) (length offsets) (length targets) (length marks) gives shortList ∷ [])
+    ++ chainRefusals file
+
+-- the reader's number
+unfoldable pub readNumber : List ℕ → List ℕ → List ℕ → List ℕ → ℕ
+readNumber file offsets targets marks = first (readRefusals file offsets targets marks)
+
+-- "A refusal other than 21 gives zeros beside its number."
+abbrev pub refusal : ℕ → ReadAnswer
+refusal number = record { number = number; vertices = 0; edges = 0 }
+
+-- the answer with this number: n and m beside 0
+unfoldable pub readAnswer : ℕ → ℕ → ℕ → ReadAnswer
+readAnswer number n m = cond (eqb number success) (record { number = number; vertices = n; edges = m }) (refusal number)
+
+-- whether rows are written with this number
+unfoldable pub writesRows : ℕ → Bool
+writesRows number = eqb number success
+
+-- "with 5 and 6 the first m marks become 0. Every call that gets past 6 leaves the first m marks 0"
+unfoldable pub clearsMarks : ℕ → Bool
+clearsMarks number = elem number (success ∷ repeated ∷ unreached ∷ [])
+
+-- what a call answers, and what the lent lists hold at exit
+pub record ReadOutcome : Type 0 where
+  pub answer : ReadAnswer
+  pub offsets : List ℕ
+  pub targets : List ℕ
+  pub marks : List ℕ
+
+-- the outcome that a call has: its answer, and the lists as it leaves them
+abbrev pub readExit : ReadAnswer → List ℕ → List ℕ → List ℕ → ReadOutcome
+readExit answer offsets targets marks = record { answer = answer; offsets = offsets; targets = targets; marks = marks }
+
+-- the outcome with this number
+unfoldable pub readOutcomeBy : ℕ → List ℕ → List ℕ → List ℕ → List ℕ → ReadOutcome
+readOutcomeBy number file offsets targets marks = record {
+  answer = readAnswer number (vertexCount file) (edgeCount file);
+  offsets = cond (writesRows number) (overlay (offsetsOf (graphOf file)) offsets) offsets;
+  targets = cond (writesRows number) (overlay (targetsOf (graphOf file)) targets) targets;
+  marks = cond (clearsMarks number) (overlay (replicate (edgeCount file) 0) marks) marks;
+}
+
+-- the outcome of `read`
+unfoldable pub readOutcome : List ℕ → List ℕ → List ℕ → List ℕ → ReadOutcome
+readOutcome file offsets targets marks = readOutcomeBy (readNumber file offsets targets marks) file offsets targets marks

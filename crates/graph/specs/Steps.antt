@@ -1,0 +1,43 @@
+-- What the inner steps of reading take for granted of each other: a header that passed, then a scan that passed.
+use Prim.Native.Nat.{ℕ, _≤_}
+use mathlib.Core.Path.{_≡_}
+use mathlib.Core.Bool.{cond}
+use mathlib.Core.List.{List}
+use lib.ListN.{length, replicate}
+use Rattle.numbers.specs.Numbers.{maxVertices, maxEdges, success}
+use Rattle.numbers.specs.Refusals.{first}
+use Rattle.lists.specs.Lists.{overlay}
+use Rattle.graph.specs.Graph.{offsetsOf, targetsOf}
+use Rattle.graph.specs.File.{vertexCount, edgeCount, fileLength, graphOf}
+use Rattle.graph.specs.Read.{headerRefusals, scanRefusals, chainRefusals, readAnswer, writesRows}
+use Rattle.graph.specs.declared.ReadAnswer.{ReadAnswer}
+
+-- what `header` answers: 1 (under 4), 2, 1 (length), or n and m
+unfoldable pub headerAnswer : List ℕ → ReadAnswer
+headerAnswer file = readAnswer (first (headerRefusals file)) (vertexCount file) (edgeCount file)
+
+-- n and m are the file's, within their sizes, and the length is theirs
+pub record Sized (file : List ℕ) (n m : ℕ) : Type 0 where
+  pub vertices : n ≡ vertexCount file
+  pub edges : m ≡ edgeCount file
+  pub some : 1 ≤ n
+  pub fewVertices : n ≤ maxVertices
+  pub fewEdges : m ≤ maxEdges
+  pub bytes : length file ≡ fileLength n m
+
+-- besides, no head, next or target is out of range
+pub record Scanned (file : List ℕ) (n m : ℕ) : Type 0 where
+  pub sized : Sized file n m
+  pub clean : first (scanRefusals file) ≡ success
+
+-- besides, each record lies on exactly one chain, once
+pub record Chained (file : List ℕ) (n m : ℕ) : Type 0 where
+  pub scanned : Scanned file n m
+  pub whole : first (chainRefusals file) ≡ success
+
+-- what `unchain` answers and leaves: 5, 6 or 0; rows are written with 0 alone, and the first m marks are 0 in any case
+pub record Unchained (file : List ℕ) (m number : ℕ) (offsets₀ targets₀ marks₀ offsets targets marks : List ℕ) : Type 0 where
+  pub judged : number ≡ first (chainRefusals file)
+  pub starts : offsets ≡ cond (writesRows number) (overlay (offsetsOf (graphOf file)) offsets₀) offsets₀
+  pub ends : targets ≡ cond (writesRows number) (overlay (targetsOf (graphOf file)) targets₀) targets₀
+  pub cleared : marks ≡ overlay (replicate m 0) marks₀

@@ -1,0 +1,21 @@
+// The adjacency file: its reader, its writer and the view of one vertex's edges.
+//
+// The outside calls are the four functions that this file exports; they assume nothing. `steps` has
+// the steps of reading, which the search and the checker share.
+mod reader;
+pub mod steps;
+mod view;
+mod words;
+mod writer;
+
+pub use reader::read;
+pub use view::links;
+pub use view::links_number;
+pub use writer::write;
+
+// The reader's answer: its number and, with 0, how many vertices and edges there are.
+pub struct ReadAnswer {
+    pub number: usize,
+    pub vertices: usize,
+    pub edges: usize,
+}

@@ -1,0 +1,6 @@
+-- Facts about specs/Lists.antt that several crates' proofs cite.
+pub mod Or
+pub mod Overlay
+pub mod Parts
+pub mod Rows
+pub mod Tests

@@ -1,0 +1,66 @@
+-- Facts about `overlay`: a list that is written from the front, place by place, over a longer one.
+use mathlib.Core.Path.{_≡_, refl, sym, ap, _∙_}
+use mathlib.Core.List.{List, [], _∷_, _++_}
+use Prim.Native.Nat.{ℕ, zero, suc, _+_, _-_, _≤_, _<_}
+use native.Mathlib.Nat.{le-refl, le-of-suc-le-suc, not-suc-le-zero}
+use native.Mathlib.Numerals.{add-one}
+use native.Mathlib.Omega.{arith}
+use lib.ListN.{length, getD, set, take, drop, replicate, length-append, length-drop, length-replicate, getD-replicate, List·getD-append}
+use lib.Seq.{take-all, drop-append-add, drop-drop}
+use Rattle.lists.specs.Lists.{overlay}
+
+-- no place of a list lies past its end
+not-in-nil : {A : Type 0} {i : ℕ} → i < 0 → A
+not-in-nil h = absurd (not-suc-le-zero h)
+
+-- written over its own first places, a list keeps its length
+pub length-overlay : (new old : List ℕ) → length new ≤ length old → length (overlay new old) ≡ length old
+unfolding overlay
+length-overlay new old h = simp (length-append, length-drop) (omega arith)
+
+-- a list whose first i places are written, with one store more
+pub overlay-suc : (new old : List ℕ) (i : ℕ) → i < length new → i < length old → set (overlay (take i new) old) i (getD new i 0) ≡ overlay (take (suc i) new) old
+unfolding overlay
+overlay-suc [] old i h k = not-in-nil h
+overlay-suc (x ∷ new) [] i h k = not-in-nil k
+overlay-suc (x ∷ new) (y ∷ old) zero h k = refl
+overlay-suc (x ∷ new) (y ∷ old) (suc i) h k = ap (λ (l : List ℕ). x ∷ l) (overlay-suc new old i (le-of-suc-le-suc h) (le-of-suc-le-suc k))
+
+-- the same for a loop that stores x at i
+pub overlay-store : (new old : List ℕ) {list : List ℕ} {i x : ℕ} → list ≡ overlay (take i new) old → x ≡ getD new i 0 → i < length new → i < length old
+    → set list i x ≡ overlay (take (i + 1) new) old
+overlay-store new old {list} {i} {x} e v h k = rw (e, v, add-one) (overlay-suc new old i h k)
+
+-- all places are written
+pub overlay-all : (new old : List ℕ) (i : ℕ) → length new ≤ i → overlay (take i new) old ≡ overlay new old
+overlay-all new old i h = rw (take-all i new h)
+
+-- the places past the new ones are the old ones
+pub drop-overlay : (new old : List ℕ) (n : ℕ) → length new ≤ n → drop n (overlay new old) ≡ drop n old
+unfolding overlay
+drop-overlay new old n h =
+    let more : n ≡ length new + (n - length new) = omega arith in
+    ap (λ (k : ℕ). drop k (new ++ drop (length new) old)) more
+    ∙ drop-append-add new (drop (length new) old) (n - length new)
+    ∙ drop-drop (n - length new) (length new) old
+    ∙ ap (λ (k : ℕ). drop k old) (sym more)
+
+-- what is laid over a list depends on those places alone
+pub overlay-kept : (new old other : List ℕ) → drop (length new) other ≡ drop (length new) old → overlay new other ≡ overlay new old
+unfolding overlay
+overlay-kept new old other e = ap (λ (rest : List ℕ). new ++ rest) e
+
+-- so it forgets a shorter list that was laid over it before
+pub overlay-again : (new other old : List ℕ) → length other ≤ length new → overlay new (overlay other old) ≡ overlay new old
+overlay-again new other old h = overlay-kept new old (overlay other old) (drop-overlay other old (length new) h)
+
+-- and may be laid over it again
+pub overlay-here : (new old : List ℕ) {list : List ℕ} → list ≡ overlay new old → list ≡ overlay new list
+overlay-here new old e = e ∙ sym (overlay-again new new old (le-refl (length new))) ∙ ap (overlay new) (sym e)
+
+-- zeros laid over a list
+pub overlay-zeros : (m : ℕ) (old : List ℕ) (i : ℕ) → i < m → getD (overlay (replicate m 0) old) i 0 ≡ 0
+unfolding overlay
+overlay-zeros m old i h =
+    let zeros : List ℕ = replicate m 0 in
+    List·getD-append zeros (drop (length zeros) old) 0 i (rw length-replicate h) ∙ getD-replicate m i 0 0 h

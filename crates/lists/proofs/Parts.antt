@@ -1,0 +1,25 @@
+-- Facts about what is left of a list after its first places, where the toolchain's libraries have them the other way round.
+use mathlib.Core.Path.{_≡_, refl}
+use mathlib.Core.List.{List, [], _∷_, nil≢cons, cons≢nil, head-eq-of-cons-eq, tail-eq-of-cons-eq}
+use Prim.Native.Nat.{ℕ, zero, suc, _≤_, _<_, zero-le, suc-le-suc}
+use lib.ListN.{length, getD, drop}
+
+-- what stands at place i: the rest of the list from there on begins with x
+pub record Next (list : List ℕ) (i x : ℕ) (rest : List ℕ) : Type 0 where
+  pub below : i < length list
+  pub here : getD list i 0 ≡ x
+  pub after : drop (suc i) list ≡ rest
+
+pub drop-next : (list : List ℕ) (i x : ℕ) (rest : List ℕ) → drop i list ≡ x ∷ rest → Next list i x rest
+drop-next [] zero x rest e = absurd (nil≢cons e)
+drop-next [] (suc i) x rest e = absurd (nil≢cons e)
+drop-next (y ∷ list) zero x rest e = record { below = suc-le-suc zero-le; here = head-eq-of-cons-eq e; after = tail-eq-of-cons-eq e }
+drop-next (y ∷ list) (suc i) x rest e =
+    let n = drop-next list i x rest e in
+    record { below = suc-le-suc (n .below); here = n .here; after = n .after }
+
+-- nothing is left: the place is the end
+pub drop-done : (list : List ℕ) (i : ℕ) → drop i list ≡ [] → length list ≤ i
+drop-done [] i e = zero-le
+drop-done (x ∷ list) zero e = absurd (cons≢nil e)
+drop-done (x ∷ list) (suc i) e = suc-le-suc (drop-done list i e)

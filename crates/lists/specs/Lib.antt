@@ -1,0 +1,2 @@
+-- Definitions on lists of numbers that several crates' specifications cite.
+pub mod Lists

@@ -1,0 +1,50 @@
+-- Lists of numbers: overlay, ranges, running sums, rows laid end to end, and tests that compute. No vertex, edge or byte here.
+use Prim.Native.Nat.{ℕ, zero, suc, _+_}
+use mathlib.Core.Bool.{Bool, true, false, not, _||_}
+use mathlib.Core.List.{List, [], _∷_, _++_}
+use lib.Dec.{leb, ltb, eqb}
+use lib.ListN.{length, drop}
+
+-- `new`, and then the rest of `old`: "Places past the need keep their contents."
+unfoldable pub overlay : List ℕ → List ℕ → List ℕ
+overlay new old = new ++ drop (length new) old
+
+-- a, a + 1, .., the `count` numbers from a on
+unfoldable pub range : ℕ → ℕ → List ℕ
+range a zero = []
+range a (suc count) = a ∷ range (suc a) count
+
+-- a, a + x, a + x + y, ..: the running sums of a list, from a on, one more than the list has places
+unfoldable pub sumsFrom : ℕ → List ℕ → List ℕ
+sumsFrom a [] = a ∷ []
+sumsFrom a (x ∷ xs) = a ∷ sumsFrom (a + x) xs
+
+-- the rows one after the other
+unfoldable pub concat : List (List ℕ) → List ℕ
+concat [] = []
+concat (row ∷ rows) = row ++ concat rows
+
+-- whether x stands in the list
+unfoldable pub elem : ℕ → List ℕ → Bool
+elem x [] = false
+elem x (y ∷ ys) = eqb x y || elem x ys
+
+-- whether some number stands in the list more than once
+unfoldable pub repeats : List ℕ → Bool
+repeats [] = false
+repeats (x ∷ xs) = elem x xs || repeats xs
+
+-- whether some number of the first list is missing from the second
+unfoldable pub lacks : List ℕ → List ℕ → Bool
+lacks [] list = false
+lacks (x ∷ xs) list = not (elem x list) || lacks xs list
+
+-- whether some number of the list is `limit` or more
+unfoldable pub reaches : ℕ → List ℕ → Bool
+reaches limit [] = false
+reaches limit (x ∷ xs) = leb limit x || reaches limit xs
+
+-- whether some number of the list is less than the one before it, the first one being judged against x
+unfoldable pub fallsFrom : ℕ → List ℕ → Bool
+fallsFrom x [] = false
+fallsFrom x (y ∷ ys) = ltb y x || fallsFrom y ys

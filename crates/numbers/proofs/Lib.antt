@@ -1,0 +1,2 @@
+-- Facts about orders of refusals that the proofs of every call cite.
+pub mod First

@@ -1,0 +1,27 @@
+// Document 01's numbers and sizes, as the code names them. specs/Numbers.antt has the same for the
+// contracts. No functions.
+
+// Sizes.
+pub const MAX_VERTICES: usize = 4096;
+
+pub const MAX_EDGES: usize = 32768;
+
+// "Turned down by the input"; 0 is success.
+pub const SUCCESS: usize = 0;
+
+pub const BAD_LENGTH: usize = 1;
+
+pub const BAD_SIZE: usize = 2;
+
+pub const BAD_TARGET: usize = 3;
+
+pub const BAD_INDEX: usize = 4;
+
+pub const REPEATED: usize = 5;
+
+pub const UNREACHED: usize = 6;
+
+pub const BAD_ROWS: usize = 11;
+
+// "Turned down by the state".
+pub const SHORT_LIST: usize = 20;
