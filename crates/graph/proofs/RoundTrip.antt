@@ -8,7 +8,7 @@ use native.Mathlib.Omega.{arith}
 use lib.Dec.{leb, ltb}
 use lib.ListN.{length, getD, take, drop, replicate, length-append, List·getD-append}
 use lib.Seq.{getD-append-add, take-at}
-use borrow.Author.Tests.{leb-false, lt-leb}
+use borrow.Author.Tests.{ltb-false, leb-false, lt-leb}
 use Rattle.numbers.specs.Numbers.{badRows, shortList}
 use Rattle.numbers.specs.Refusals.{first, _gives_}
 use Rattle.numbers.proofs.First.{first-passed}
@@ -314,19 +314,22 @@ encode-outcome g f offsets targets marks a b c = rw (encode-read g f offsets tar
 
 -- What `write` leaves is read back.
 
--- rows that were written
-written-accepted : (offsets targets bytes : List ℕ) → writeNumber offsets targets bytes ≡ 0 → malformed offsets targets ≡ false
+-- rows that were written: they are not malformed, and the list was long enough
+pub written-passed : (offsets targets bytes : List ℕ) → writeNumber offsets targets bytes ≡ 0
+    → (malformed offsets targets ≡ false) × (fileLength (rowCount offsets) (length targets) ≤ length bytes)
 unfolding writeNumber writeRefusals
-written-accepted offsets targets bytes e =
-    first-passed (malformed offsets targets) badRows (ltb (length bytes) (fileLength (rowCount offsets) (length targets)) gives shortList ∷ []) (omega arith) e .0
+written-passed offsets targets bytes e =
+    let long = ltb (length bytes) (fileLength (rowCount offsets) (length targets)) in
+    let p = first-passed (malformed offsets targets) badRows (long gives shortList ∷ []) (omega arith) e in
+    let q = first-passed long shortList [] (omega arith) (p .1) in
+    (p .0, ltb-false (length bytes) (fileLength (rowCount offsets) (length targets)) (q .0))
 
--- the file's bytes at the front of the lent list
 pub written-bytes : (offsets targets bytes : List ℕ) → (writeOutcome offsets targets bytes) .number ≡ 0
     → take (fileLength (rowCount offsets) (length targets)) ((writeOutcome offsets targets bytes) .file) ≡ encode (rowsOf offsets targets)
 unfolding writeOutcome writeOutcomeBy overlay
 written-bytes offsets targets bytes e =
     let g = rowsOf offsets targets in
-    let ok = written-accepted offsets targets bytes e in
+    let ok = written-passed offsets targets bytes e .0 in
     let n = length-rows offsets targets in
     let t = accepted-targets offsets targets ok in
     rw e (take-at (encode g) (drop (length (encode g)) bytes) (fileLength (rowCount offsets) (length targets)) (encode-length g ∙ rw (n, t)))
@@ -339,7 +342,7 @@ pub written-read : (offsets targets bytes o t k : List ℕ) → (writeOutcome of
 unfolding writeOutcome writeOutcomeBy
 written-read offsets targets bytes o t k e a b c =
     let g = rowsOf offsets targets in
-    let ok = written-accepted offsets targets bytes e in
+    let ok = written-passed offsets targets bytes e .0 in
     let vertices = length-rows offsets targets in
     let same-offsets = accepted-offsets offsets targets ok in
     let same-targets = accepted-targets offsets targets ok in

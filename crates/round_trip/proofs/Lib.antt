@@ -1,0 +1,2 @@
+-- What the proof of `write_and_read` goes by.
+pub mod Facts

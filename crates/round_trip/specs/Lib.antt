@@ -1,0 +1,2 @@
+-- What `write_and_read` answers and leaves.
+pub mod Returned
