@@ -1,16 +1,16 @@
 -- The walk that writes rows: what holds between its steps, that each step keeps it, and that at the end all rows are written.
 use mathlib.Core.Path.{_≡_, refl, sym, ap, _∙_}
 use mathlib.Core.List.{List, [], _∷_, _++_, map}
-use Prim.Native.Nat.{ℕ, zero, suc, _+_, _-_, _≤_, _<_}
-use native.Mathlib.Nat.{add-zero, add-suc, suc-add}
+use Prim.Native.Nat.{ℕ, suc, _+_, _-_, _≤_, _<_}
+use native.Mathlib.Nat.{add-zero}
 use native.Mathlib.Numerals.{add-one}
 use native.Mathlib.Omega.{arith}
-use lib.ListN.{length, getD, set, take, drop, length-map}
-use Rattle.lists.specs.Lists.{overlay, range, sumsFrom, concat}
+use lib.ListN.{length, set, take, drop, length-map}
+use Rattle.lists.specs.Lists.{overlay, sumsFrom, concat}
 use Rattle.lists.proofs.Overlay.{overlay-store, overlay-all}
 use Rattle.lists.proofs.Parts.{Next, drop-next, drop-done}
 use Rattle.graph.specs.Graph.{offsetsOf, targetsOf}
-use Rattle.graph.specs.File.{vertexCount, edgeCount, head, target, next, chain, chains, reached, graphOf}
+use Rattle.graph.specs.File.{edgeCount, head, target, next, chain, chains, reached, graphOf}
 use Rattle.graph.specs.Steps.{Chained}
 use Rattle.graph.proofs.Bridge.{length-offsets}
 use Rattle.graph.proofs.FileLists.{length-graph}

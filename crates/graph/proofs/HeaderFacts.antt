@@ -1,17 +1,15 @@
 -- The header's refusals, one fact for each way through them: 1 (under 4), 2, 1 (length), and what passing them says of the file.
-use mathlib.Core.Path.{_≡_, refl, sym, ap, _∙_}
-use mathlib.Core.Bool.{Bool, true, false, _||_}
-use mathlib.Core.List.{List, [], _∷_}
-use Prim.Native.Nat.{ℕ, _+_, _*_, _≤_, _<_}
-use lib.Dec.{ltb, eqb}
+use mathlib.Core.Path.{_≡_}
+use mathlib.Core.Bool.{true, false}
+use mathlib.Core.List.{List}
+use Prim.Native.Nat.{ℕ, _≤_, _<_}
 use lib.ListN.{length}
 use borrow.Author.Tests.{lt-ltb, le-ltb, eq-eqb, ne-eqb}
 use Rattle.numbers.specs.Numbers.{badLength, badSize}
 use Rattle.numbers.specs.Refusals.{first}
 use Rattle.graph.specs.File.{vertexCount, edgeCount, fileLength}
 use Rattle.graph.specs.Read.{headerRefusals, outsideSizes, refusal, readAnswer}
-use Rattle.graph.specs.Steps.{headerAnswer, Sized}
-use Rattle.graph.specs.declared.ReadAnswer.{ReadAnswer}
+use Rattle.graph.specs.Steps.{headerAnswer}
 
 -- 1: under 4 bytes
 pub header-under-four : (file : List ℕ) → length file < 4 → refusal badLength ≡ headerAnswer file

@@ -3,6 +3,7 @@
 pub mod Bridge
 pub mod WellFormed
 pub mod RoundTrip
+pub mod Cases
 pub mod FileLists
 pub mod EncodeFacts
 pub mod HeaderFacts

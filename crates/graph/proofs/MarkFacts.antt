@@ -1,9 +1,9 @@
 -- The walk that marks: what holds between its steps, that each step keeps it, and what it says of 5 and 6 at the end.
 use mathlib.Core.Path.{_≡_, refl, sym, ap, _∙_}
 use mathlib.Core.Logic.{_≢_}
-use mathlib.Core.Bool.{Bool, true, false, cond, _||_, or-false}
+use mathlib.Core.Bool.{Bool, true, false, cond, or-false}
 use mathlib.Core.List.{List, [], _∷_, _++_, append-assoc, append-nil}
-use Prim.Native.Nat.{ℕ, zero, suc, _+_, _-_, _≤_, _<_}
+use Prim.Native.Nat.{ℕ, suc, _+_, _-_, _≤_, _<_}
 use native.Mathlib.Numerals.{add-one}
 use native.Mathlib.Omega.{arith}
 use lib.Dec.{eqb}
@@ -12,10 +12,10 @@ use lib.Seq.{getD-set-same, getD-set-other}
 use borrow.Author.Tests.{eqb-true, eqb-false}
 use Rattle.numbers.specs.Numbers.{success, repeated, unreached}
 use Rattle.numbers.specs.Refusals.{first}
-use Rattle.lists.specs.Lists.{range, concat, elem, repeats, lacks}
+use Rattle.lists.specs.Lists.{concat, elem, repeats}
 use Rattle.lists.proofs.Or.{or-second}
 use Rattle.lists.proofs.Tests.{elem-append, repeats-append, repeats-again, InRange, in-range-nil, in-range-append, in-range-one, distinct-short, distinct-full, short-lacks}
-use Rattle.graph.specs.File.{vertexCount, edgeCount, head, next, chain, reached}
+use Rattle.graph.specs.File.{head, next, chain, reached}
 use Rattle.graph.specs.Read.{chainRefusals}
 use Rattle.graph.specs.Steps.{Scanned}
 use Rattle.graph.proofs.ScanFacts.{head-within, next-within}

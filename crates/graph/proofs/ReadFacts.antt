@@ -1,35 +1,19 @@
 -- The reader's outcome, one fact for each way through its steps, and what each step passed says for the next.
 use mathlib.Core.Path.{_≡_, refl, sym, ap, _∙_}
-use mathlib.Core.Bool.{Bool, true, false, cond, not, _||_}
+use mathlib.Core.Bool.{Bool, true, false, cond, _||_}
 use mathlib.Core.List.{List, [], _∷_, _++_}
-use Prim.Native.Nat.{ℕ, zero, suc, _+_, _≤_, _<_}
+use Prim.Native.Nat.{ℕ, _+_, _≤_, _<_}
 use native.Mathlib.Omega.{arith}
 use lib.Dec.{eqb, ltb}
 use lib.ListN.{length, replicate}
-use borrow.Author.Tests.{eq-eqb, ne-eqb, ltb-false}
+use borrow.Author.Tests.{ne-eqb, ltb-false}
 use Rattle.numbers.specs.Numbers.{success, badLength, badSize, badTarget, badIndex, repeated, unreached, shortList}
 use Rattle.numbers.specs.Refusals.{Refusal, _gives_, first}
 use Rattle.numbers.proofs.First.{Positive, first-stop, first-skip, first-append, first-append-stop}
 use Rattle.lists.specs.Lists.{overlay, elem}
 use Rattle.lists.proofs.Or.{or-none}
-use Rattle.graph.specs.Graph.{offsetsOf, targetsOf}
-use Rattle.graph.specs.File.{vertexCount, edgeCount, graphOf}
-use Rattle.graph.specs.Read.{
-  headerRefusals,
-  scanRefusals,
-  chainRefusals,
-  rowsShort,
-  readRefusals,
-  readNumber,
-  refusal,
-  readAnswer,
-  writesRows,
-  clearsMarks,
-  ReadOutcome,
-  readExit,
-  readOutcomeBy,
-  readOutcome,
-}
+use Rattle.graph.specs.File.{vertexCount, edgeCount}
+use Rattle.graph.specs.Read.{headerRefusals, scanRefusals, chainRefusals, rowsShort, readRefusals, readNumber, refusal, readAnswer, writesRows, clearsMarks, readExit, readOutcomeBy, readOutcome}
 use Rattle.graph.specs.Steps.{headerAnswer, Sized, Unchained}
 use Rattle.graph.specs.declared.ReadAnswer.{ReadAnswer}
 use Rattle.graph.proofs.WellFormed.{header-sized}

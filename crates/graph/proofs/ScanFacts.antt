@@ -1,8 +1,8 @@
 -- The scan's refusals, one fact for each way through them: 4, 3, and what passing them says of heads, nexts and targets.
 use mathlib.Core.Path.{_≡_}
-use mathlib.Core.Bool.{Bool, true, false, _||_}
-use mathlib.Core.List.{List, [], _∷_, _++_}
-use Prim.Native.Nat.{ℕ, suc, _+_, _≤_, _<_}
+use mathlib.Core.Bool.{true, false}
+use mathlib.Core.List.{List}
+use Prim.Native.Nat.{ℕ, _+_, _≤_, _<_}
 use native.Mathlib.Numerals.{add-one}
 use Rattle.numbers.specs.Numbers.{success, badTarget, badIndex}
 use Rattle.numbers.specs.Refusals.{first}

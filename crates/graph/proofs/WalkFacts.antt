@@ -1,12 +1,11 @@
 -- A walk along the chains, vertex by vertex: the records that are still to come, and how they are met one at a time. Both walks of the
 -- reader, the one that marks and the one that writes rows, go by these facts.
-use mathlib.Core.Path.{_≡_, refl, sym, ap, _∙_}
-use mathlib.Core.List.{List, [], _∷_, _++_, map}
+use mathlib.Core.Path.{_≡_, refl, ap}
+use mathlib.Core.List.{List, [], _∷_, map}
 use Prim.Native.Nat.{ℕ, zero, suc, _+_, _*_, _-_, _≤_, _<_}
 use native.Mathlib.Nat.{sub-zero}
 use native.Mathlib.Omega.{arith}
-use lib.ListN.{length}
-use Rattle.lists.specs.Lists.{range, concat}
+use Rattle.lists.specs.Lists.{range}
 use Rattle.graph.specs.File.{word, vertexCount, edgeCount, head, target, next, chain, chains}
 use Rattle.graph.specs.Steps.{Sized}
 

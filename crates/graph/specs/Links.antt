@@ -5,7 +5,7 @@ use mathlib.Core.List.{List, [], _∷_}
 use lib.Dec.{ltb}
 use lib.ListN.{length, getD, take, drop}
 use Rattle.numbers.specs.Numbers.{badRows}
-use Rattle.numbers.specs.Refusals.{Refusal, _gives_, first}
+use Rattle.numbers.specs.Refusals.{_gives_, first}
 
 -- 11 of the view: "fewer than 2 offsets, device not under offsets length less one, or its two offsets fall or pass the end of targets"
 unfoldable pub outOfView : List ℕ → List ℕ → ℕ → Bool

@@ -15,7 +15,7 @@ use Rattle.graph.specs.declared.ReadAnswer.{ReadAnswer}
 unfoldable pub outsideSizes : ℕ → ℕ → Bool
 outsideSizes n m = eqb n 0 || ltb maxVertices n || ltb maxEdges m
 
--- 1 (under 4), 2, 1 (length)
+-- "1: under 4 bytes", "2: n or m outside its size", "1: .. length not as above"
 unfoldable pub headerRefusals : List ℕ → List Refusal
 headerRefusals file =
     ltb (length file) 4 gives badLength
@@ -23,21 +23,21 @@ headerRefusals file =
     ∷ not (eqb (length file) (fileLength (vertexCount file) (edgeCount file))) gives badLength
     ∷ []
 
--- 4, 3: judged over all heads and records, reached or not
+-- "4: a head or next above m", "3: a target of n or more": judged over all heads and records, reached or not
 unfoldable pub scanRefusals : List ℕ → List Refusal
 scanRefusals file =
     reaches (suc (edgeCount file)) (heads file ++ recordNexts file) gives badIndex
     ∷ reaches (vertexCount file) (recordTargets file) gives badTarget
     ∷ []
 
--- 5, 6
+-- "5: a record reached a second time", "6: a record never reached"
 unfoldable pub chainRefusals : List ℕ → List Refusal
 chainRefusals file =
     repeats (reached file) gives repeated
     ∷ lacks (range 1 (edgeCount file)) (reached file) gives unreached
     ∷ []
 
--- "Needs: offsets n + 1, targets and marks m", by the lists' lengths
+-- "20: a lent list is shorter than its need", "offsets n + 1, targets and marks m", by the lists' lengths
 unfoldable pub rowsShort : ℕ → ℕ → ℕ → ℕ → ℕ → Bool
 rowsShort n m offsets targets marks = ltb offsets (n + 1) || ltb targets m || ltb marks m
 

@@ -1,15 +1,15 @@
 -- From what the two calls ensure to what comes back: the writer's outcome with 0 says that the rows fit their file, and the reader's
 -- outcome on that file is the one that the round trip gives.
-use mathlib.Core.Path.{_≡_, refl, sym, ap, _∙_}
+use mathlib.Core.Path.{_≡_, sym, ap, _∙_}
 use mathlib.Core.List.{List}
-use Prim.Native.Nat.{ℕ, _+_, _*_, _-_, _≤_, _<_}
+use Prim.Native.Nat.{ℕ, _+_, _-_, _≤_}
 use native.Mathlib.Numerals.{sub-one}
 use native.Mathlib.Omega.{arith}
 use lib.ListN.{length, take}
 use Rattle.numbers.specs.Numbers.{maxVertices, maxEdges}
 use Rattle.graph.specs.File.{fileLength}
 use Rattle.graph.specs.Read.{ReadOutcome, readExit, readOutcome}
-use Rattle.graph.specs.Write.{rowCount, WriteOutcome, writeExit, writeNumber, writeOutcome, writeOutcomeBy}
+use Rattle.graph.specs.Write.{WriteOutcome, writeExit, writeNumber, writeOutcome, writeOutcomeBy}
 use Rattle.graph.specs.declared.ReadAnswer.{ReadAnswer}
 use Rattle.graph.proofs.Bridge.{accepted, offsets-count}
 use Rattle.graph.proofs.RoundTrip.{written-passed, written-read}

@@ -6,10 +6,6 @@ use lib.Seq.{length-take-le}
 use Rattle.round_trip.proofs.Facts.{Fitting, wrote-fitting, refusal-returned, rows-returned}
 use Rattle.round_trip.proofs.write_and_read.Statement.{statement}
 use Rattle.round_trip.proofs.write_and_read.Tie as tie
-use Rattle.round_trip.proofs.write_and_read.Reads as reads
-use Rattle.round_trip.proofs.write_and_read.Lts as lts
-use Rattle.graph.proofs.read.Reads as read-reads
-use Rattle.graph.proofs.write.Reads as write-reads
 
 write-requires : tie.Need-write-requires
 write-requires c κs = search needs
@@ -25,8 +21,8 @@ returns c =
 -- what was written fits
 fitting : (c : tie.Else1)
     → Fitting (c .before .before .before .before .before .before .before .before .before .before .before .args .offsets .now)
-        (c .before .before .before .before .before .before .before .before .before .before .before .args .targets .now)
-        (c .before .before .before .before .before .before .before .before .before .before .before .args .file .now)
+    (c .before .before .before .before .before .before .before .before .before .before .before .args .targets .now)
+    (c .before .before .before .before .before .before .before .before .before .before .before .args .file .now)
 fitting c = wrote-fitting _ _ _ (c .before .before .before .write .ensures) (c .if1 .left)
 
 sub-n : tie.Need-sub-n
@@ -70,7 +66,7 @@ returns-2 c =
     let written = c .before .before .before .before .before .before .before .before .before .before .before in
     let a = written .before .before .before .before .before .before .before .before .before .before .before .args in
     rows-returned (a .offsets .now) (a .targets .now) (a .file .now) (written .before .before .before .write .ensures) (a .offsets-read .now) (a .targets-read .now) (a .marks .now)
-        (written .if1 .left) (c .before .before .before .before .before .before .read .ensures)
+    (written .if1 .left) (c .before .before .before .before .before .before .read .ensures)
 
 pub write-and-read-spec : {M : Type 1} → statement M
 write-and-read-spec =

@@ -1,25 +1,15 @@
 -- `graph::reader::read` meets its contract: each return is one of the ways through the reader's steps.
 use borrow.Author.Needs.{needs}
-use mathlib.Core.Path.{_≡_, refl, sym, ap, _∙_}
-use mathlib.Core.Bool.{true, false}
+use mathlib.Core.Path.{_≡_, sym, _∙_}
 use mathlib.Core.List.{List}
 use Prim.Native.Nat.{ℕ}
 use lib.ListN.{length}
-use borrow.Author.Tests.{ltb-false}
 use Rattle.numbers.specs.Refusals.{first}
-use Rattle.graph.specs.File.{vertexCount, edgeCount}
-use Rattle.graph.specs.Read.{scanRefusals, headerRefusals, rowsShort}
-use Rattle.graph.specs.Steps.{Sized, Scanned, Unchained}
+use Rattle.graph.specs.Read.{scanRefusals, headerRefusals}
+use Rattle.graph.specs.Steps.{Sized}
 use Rattle.graph.proofs.ReadFacts.{header-number, header-whole, header-fits, long-enough, short-as, read-header, read-scan, read-short, read-chains, read-whole}
 use Rattle.graph.proofs.reader.read.Statement.{statement}
 use Rattle.graph.proofs.reader.read.Tie as tie
-use Rattle.graph.proofs.reader.read.Reads as reads
-use Rattle.graph.proofs.reader.read.Lts as lts
-use Rattle.graph.proofs.steps.header.Reads as header-reads
-use Rattle.graph.proofs.steps.refused.Reads as refused-reads
-use Rattle.graph.proofs.steps.rows_short.Reads as rows-short-reads
-use Rattle.graph.proofs.steps.scan.Reads as scan-reads
-use Rattle.graph.proofs.steps.unchain.Reads as unchain-reads
 
 header-requires : tie.Need-header-requires
 header-requires c κs = search needs

@@ -9,8 +9,6 @@ use Rattle.lists.specs.Lists.{overlay}
 use Rattle.lists.proofs.Overlay.{overlay-store, overlay-all}
 use Rattle.graph.proofs.steps.clear.Statement.{statement}
 use Rattle.graph.proofs.steps.clear.Tie as tie
-use Rattle.graph.proofs.steps.clear.Reads as reads
-use Rattle.graph.proofs.steps.clear.Lts as lts
 
 abbrev Inv-loop : tie.InvT-loop
 Inv-loop marks₀ m i₀ marks i = (i ≤ m) × (marks ≡ overlay (take i (replicate m 0)) marks₀) × (length marks ≡ length marks₀)

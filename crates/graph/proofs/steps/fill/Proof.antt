@@ -2,18 +2,15 @@
 -- vertices and of the records.
 use borrow.Author.Needs.{needs}
 use native.Mathlib.Omega.{arith}
-use mathlib.Core.Path.{_≡_, refl, sym, ap, _∙_}
+use mathlib.Core.Path.{_≡_, refl, _∙_}
 use mathlib.Core.List.{List}
-use Prim.Native.Nat.{ℕ, _+_, _*_, _-_, _≤_, _<_, zero-le}
+use Prim.Native.Nat.{ℕ, _+_, _-_, _≤_, _<_, zero-le}
 use lib.ListN.{length, length-set}
 use Rattle.graph.specs.File.{head}
 use Rattle.graph.proofs.FillFacts.{Filling, fill-start, fill-head, fill-offsets, fill-targets, fill-room, fill-record}
 use Rattle.graph.proofs.WalkFacts.{target-word, next-word}
 use Rattle.graph.proofs.steps.fill.Statement.{statement}
 use Rattle.graph.proofs.steps.fill.Tie as tie
-use Rattle.graph.proofs.steps.fill.Reads as reads
-use Rattle.graph.proofs.steps.fill.Lts as lts
-use Rattle.graph.proofs.words.word.Reads as word-reads
 
 abbrev Inv-loop : tie.InvT-loop
 Inv-loop file n m offsets₀ targets₀ vertex₀ index₀ count₀ offsets targets vertex index count =

@@ -1,19 +1,10 @@
 -- `graph::steps::header` meets its contract: each return is one of the ways through the header's refusals.
 use borrow.Author.Needs.{needs}
-use mathlib.Core.Path.{_≡_, refl, sym, ap, _∙_}
-use mathlib.Core.Bool.{Bool}
-use Prim.Native.Nat.{ℕ}
-use Rattle.graph.specs.File.{vertexCount, edgeCount, fileLength}
-use Rattle.graph.specs.Read.{outsideSizes}
-use Rattle.graph.specs.declared.ReadAnswer.{ReadAnswer}
+use mathlib.Core.Path.{sym, _∙_}
+use Rattle.graph.specs.File.{vertexCount, edgeCount}
 use Rattle.graph.proofs.HeaderFacts.{header-under-four, header-outside, header-length, header-passes}
 use Rattle.graph.proofs.steps.header.Statement.{statement}
 use Rattle.graph.proofs.steps.header.Tie as tie
-use Rattle.graph.proofs.steps.header.Reads as reads
-use Rattle.graph.proofs.steps.header.Lts as lts
-use Rattle.graph.proofs.steps.refused.Reads as refused-reads
-use Rattle.graph.proofs.steps.outside_sizes.Reads as outside-sizes-reads
-use Rattle.graph.proofs.words.word.Reads as word-reads
 
 refused-requires : tie.Need-refused-requires
 refused-requires c κs = search needs

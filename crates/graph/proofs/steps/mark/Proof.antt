@@ -2,19 +2,16 @@
 -- is left of the vertices and of the records.
 use borrow.Author.Needs.{needs}
 use native.Mathlib.Omega.{arith}
-use mathlib.Core.Path.{_≡_, refl, sym, ap, _∙_}
+use mathlib.Core.Path.{_≡_, refl, _∙_}
 use mathlib.Core.List.{List}
-use Prim.Native.Nat.{ℕ, _+_, _*_, _-_, _≤_, _<_}
-use lib.ListN.{length, getD, set, drop, length-set}
+use Prim.Native.Nat.{ℕ, _+_, _-_, _<_}
+use lib.ListN.{length, drop, length-set}
 use lib.Seq.{drop-set-lt}
 use Rattle.graph.proofs.MarkFacts.{Marking, mark-start, mark-head, mark-again, mark-new, mark-room, mark-few, mark-full}
 use Rattle.graph.specs.File.{head}
 use Rattle.graph.proofs.WalkFacts.{next-word}
 use Rattle.graph.proofs.steps.mark.Statement.{statement}
 use Rattle.graph.proofs.steps.mark.Tie as tie
-use Rattle.graph.proofs.steps.mark.Reads as reads
-use Rattle.graph.proofs.steps.mark.Lts as lts
-use Rattle.graph.proofs.words.word.Reads as word-reads
 
 abbrev Inv-loop : tie.InvT-loop
 Inv-loop file n m marks₀ vertex₀ index₀ count₀ marks vertex index count =

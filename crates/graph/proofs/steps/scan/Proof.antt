@@ -4,9 +4,6 @@ use mathlib.Core.Path.{sym, _∙_}
 use Rattle.graph.proofs.ScanFacts.{scan-head, scan-next, scan-target, scan-passes}
 use Rattle.graph.proofs.steps.scan.Statement.{statement}
 use Rattle.graph.proofs.steps.scan.Tie as tie
-use Rattle.graph.proofs.steps.scan.Reads as reads
-use Rattle.graph.proofs.steps.scan.Lts as lts
-use Rattle.graph.proofs.words.any_reaches.Reads as any-reaches-reads
 
 -- src/steps.rt:71:35
 add-any-reaches : tie.Need-add-any-reaches

@@ -2,7 +2,7 @@
 -- what was there before.
 use borrow.Author.Needs.{needs}
 use native.Mathlib.Omega.{arith}
-use mathlib.Core.Path.{_≡_, sym, ap, _∙_}
+use mathlib.Core.Path.{_≡_, ap, _∙_}
 use mathlib.Core.List.{List}
 use Prim.Native.Nat.{ℕ}
 use native.Mathlib.Nat.{le-of-eq}
@@ -11,10 +11,6 @@ use Rattle.lists.specs.Lists.{overlay}
 use Rattle.lists.proofs.Overlay.{drop-overlay, overlay-kept, overlay-zeros}
 use Rattle.graph.proofs.steps.survey.Statement.{statement}
 use Rattle.graph.proofs.steps.survey.Tie as tie
-use Rattle.graph.proofs.steps.survey.Reads as reads
-use Rattle.graph.proofs.steps.survey.Lts as lts
-use Rattle.graph.proofs.steps.clear.Reads as clear-reads
-use Rattle.graph.proofs.steps.mark.Reads as mark-reads
 
 -- zeros laid over a list that is, past them, as the list was
 cleared-again : (m : ℕ) (marks marked : List ℕ) {zeros : List ℕ} → zeros ≡ overlay (replicate m 0) marks → drop m marked ≡ drop m zeros

@@ -1,17 +1,13 @@
 -- `graph::steps::unchain` meets its contract: what the survey finds decides whether rows are written.
 use borrow.Author.Needs.{needs}
 use borrow.Author.Tests.{ne-eqb}
-use mathlib.Core.Path.{_≡_, refl, sym, _∙_}
+use mathlib.Core.Path.{_≡_, sym, _∙_}
 use mathlib.Core.Bool.{cond}
 use mathlib.Core.List.{List}
 use Prim.Native.Nat.{ℕ}
 use Rattle.graph.specs.Read.{writesRows}
 use Rattle.graph.proofs.steps.unchain.Statement.{statement}
 use Rattle.graph.proofs.steps.unchain.Tie as tie
-use Rattle.graph.proofs.steps.unchain.Reads as reads
-use Rattle.graph.proofs.steps.unchain.Lts as lts
-use Rattle.graph.proofs.steps.survey.Reads as survey-reads
-use Rattle.graph.proofs.steps.fill.Reads as fill-reads
 
 -- with a refusal no rows are written
 unwritten : (number : ℕ) (new old : List ℕ) → (number ≡ 0 → ⊥) → old ≡ cond (writesRows number) new old

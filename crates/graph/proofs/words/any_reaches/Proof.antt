@@ -2,9 +2,8 @@
 -- count less i.
 use borrow.Author.Needs.{needs}
 use native.Mathlib.Omega.{arith}
-use mathlib.Core.Path.{_≡_, refl, sym, ap, _∙_}
-use mathlib.Core.List.{List}
-use Prim.Native.Nat.{ℕ, _+_, _*_, _-_, _≤_, _<_}
+use mathlib.Core.Path.{_≡_, sym, ap, _∙_}
+use Prim.Native.Nat.{ℕ, _+_, _*_, _-_, _≤_}
 use native.Mathlib.Nat.{add-zero, sub-zero, mul-zero, mul-suc}
 use native.Mathlib.Numerals.{add-one}
 use Rattle.lists.specs.Lists.{reaches}
@@ -12,9 +11,6 @@ use Rattle.graph.specs.File.{word, wordsAt}
 use Rattle.graph.proofs.WordRuns.{reaches-pass, reaches-here, reaches-none, stride-le}
 use Rattle.graph.proofs.words.any_reaches.Statement.{statement}
 use Rattle.graph.proofs.words.any_reaches.Tie as tie
-use Rattle.graph.proofs.words.any_reaches.Reads as reads
-use Rattle.graph.proofs.words.any_reaches.Lts as lts
-use Rattle.graph.proofs.words.word.Reads as word-reads
 
 abbrev Inv-loop : tie.InvT-loop
 Inv-loop file place stride count limit i₀ at₀ i at =

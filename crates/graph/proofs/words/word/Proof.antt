@@ -2,9 +2,6 @@ use borrow.Author.Needs.{needs}
 use Rattle.graph.specs.File.{word}
 use Rattle.graph.proofs.words.word.Statement.{statement}
 use Rattle.graph.proofs.words.word.Tie as tie
-use Rattle.graph.proofs.words.word.Reads as reads
-use Rattle.graph.proofs.words.word.Lts as lts
-use Rattle.graph.proofs.words.wide.Reads as wide-reads
 
 -- src/words.rt:22:25
 mul-wide : tie.Need-mul-wide

@@ -19,8 +19,8 @@ use Rattle.graph.specs.Graph.{rowsOf}
 use Rattle.graph.specs.File.{fileLength}
 use Rattle.graph.specs.Encode.{encode}
 use Rattle.graph.specs.Write.{rowCount, writeRefusals, writeNumber, writeOutcomeBy, writeOutcome, writeExit}
-use Rattle.graph.specs.Write.{malformed as Write·malformed}
 use Rattle.graph.specs.WriteSteps.{WellFormed}
+use Rattle.graph.specs.Write.{malformed as Write·malformed}
 use Rattle.graph.proofs.WellFormedRows.{well-formed}
 use Rattle.graph.proofs.writer.write.Statement.{statement}
 use Rattle.graph.proofs.writer.write.Tie as tie
