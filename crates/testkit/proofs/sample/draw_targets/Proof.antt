@@ -1,0 +1,57 @@
+-- `testkit::sample::draw_targets` is safe and ends. The loop counts the edges; the measure is how many are left.
+-- Assumes nothing.
+use Prim.Native.Nat.{_≤_, _-_}
+use mathlib.Core.Path.{_≡_}
+use lib.ListN.{length}
+use borrow.Author.Needs.{needs}
+use Rattle.testkit.proofs.sample.draw_targets.Statement.{statement}
+use Rattle.testkit.proofs.sample.draw_targets.Tie as tie
+
+abbrev Inv-loop : tie.InvT-loop
+Inv-loop targets₀ vertices edges seed edge₀ state₀ targets edge state = (edge ≤ edges) × (length targets ≡ length targets₀)
+
+abbrev μ-loop : tie.MeasureT-loop
+μ-loop targets₀ vertices edges seed edge₀ state₀ targets edge state = edges - edge
+
+loop-holds : tie.Need-loop-holds Inv-loop μ-loop
+loop-holds c = search needs
+
+next-requires : tie.Need-next-requires Inv-loop μ-loop
+next-requires c κs = search needs
+
+below-requires : tie.Need-below-requires Inv-loop μ-loop
+below-requires c κs = search needs
+
+put-requires : tie.Need-put-requires Inv-loop μ-loop
+put-requires c κs = search needs
+
+add-edge : tie.Need-add-edge Inv-loop μ-loop
+add-edge c = search needs
+
+loop-less : tie.Need-loop-less Inv-loop μ-loop
+loop-less c = search needs
+
+loop-again : tie.Need-loop-again Inv-loop μ-loop
+loop-again c = search needs
+
+same-length : tie.Need-same-length Inv-loop μ-loop
+same-length c = search needs
+
+returns : tie.Need-returns Inv-loop μ-loop
+returns c = search needs
+
+pub draw-targets-spec : {M : Type 1} → statement M
+draw-targets-spec =
+    tie.close
+    (tie.spec
+    Inv-loop
+    μ-loop
+    loop-holds
+    next-requires
+    below-requires
+    put-requires
+    add-edge
+    loop-less
+    loop-again
+    same-length
+    returns)
