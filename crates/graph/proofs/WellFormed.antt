@@ -185,10 +185,6 @@ scanned-bounded {file} s = scan-bounded file (s .clean)
 pub chained-partitioned : {file : List ℕ} {n m : ℕ} → Chained file n m → Partitioned file
 chained-partitioned {file} c = chains-partitioned file (c .whole)
 
--- m records are reached
-pub chained-length : {file : List ℕ} {n m : ℕ} → Chained file n m → length (reached file) ≡ m
-chained-length {file} c = reached-length file (scanned-bounded (c .scanned)) (chained-partitioned c) ∙ sym (c .scanned .sized .edges)
-
 -- The rows that are read.
 
 -- the targets, in the order in which their records are reached

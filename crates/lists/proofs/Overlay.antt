@@ -5,18 +5,13 @@ use Prim.Native.Nat.{ℕ, zero, suc, _+_, _-_, _≤_, _<_}
 use native.Mathlib.Nat.{le-refl, le-of-suc-le-suc, not-suc-le-zero}
 use native.Mathlib.Numerals.{add-one}
 use native.Mathlib.Omega.{arith}
-use lib.ListN.{length, getD, set, take, drop, replicate, length-append, length-drop, length-replicate, getD-replicate, List·getD-append}
+use lib.ListN.{length, getD, set, take, drop, replicate, length-replicate, getD-replicate, List·getD-append}
 use lib.Seq.{take-all, drop-append-add, drop-drop}
 use Rattle.lists.specs.Lists.{overlay}
 
 -- no place of a list lies past its end
 not-in-nil : {A : Type 0} {i : ℕ} → i < 0 → A
 not-in-nil h = absurd (not-suc-le-zero h)
-
--- written over its own first places, a list keeps its length
-pub length-overlay : (new old : List ℕ) → length new ≤ length old → length (overlay new old) ≡ length old
-unfolding overlay
-length-overlay new old h = simp (length-append, length-drop) (omega arith)
 
 -- a list whose first i places are written, with one store more
 pub overlay-suc : (new old : List ℕ) (i : ℕ) → i < length new → i < length old → set (overlay (take i new) old) i (getD new i 0) ≡ overlay (take (suc i) new) old

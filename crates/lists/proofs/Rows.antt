@@ -67,10 +67,6 @@ pub record Two (l : List ℕ) (p a b : ℕ) : Type 0 where
   pub fst : getD l p 0 ≡ a
   pub snd : getD l (suc p) 0 ≡ b
 
--- pair number j is twice as far
-pub twice-suc : (j : ℕ) → 2 * suc j ≡ suc (suc (2 * j))
-twice-suc j = omega arith
-
 module _ {l : List ℕ} {p a b : ℕ} (two : Two l p a b) where
   -- at the same place, by equal numbers
   pub two-same : {q c d : ℕ} → p ≡ q → a ≡ c → b ≡ d → Two l q c d

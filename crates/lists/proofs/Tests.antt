@@ -2,15 +2,14 @@
 -- end to end, and the pigeonhole, which counts distinct numbers by the places that they have.
 use mathlib.Core.Path.{_≡_, refl, sym, ap, _∙_}
 use mathlib.Core.Bool.{Bool, true, false, cond, not, _||_, or-assoc, true≢false}
-use mathlib.Core.List.{List, [], _∷_, _++_, map, append-assoc, map-append}
+use mathlib.Core.List.{List, [], _∷_, _++_, map, map-append}
 use Prim.Native.Nat.{ℕ, zero, suc, _+_, _≤_, _<_}
 use mathlib.Core.Logic.{_≢_}
 use native.Mathlib.Nat.{le-of-suc-le-suc, not-suc-le-zero, not-le-of-lt, zero-add, add-zero, suc-add, add-suc}
-use native.Mathlib.Numerals.{add-one}
 use native.Mathlib.Omega.{arith}
 use lib.Dec.{leb, ltb, eqb}
 use lib.ListN.{length, getD, length-append}
-use borrow.Author.Tests.{ltb-false, leb-false, eqb-true, eqb-false, not-false, le-ltb, le-leb, lt-leb, eq-eqb, ne-eqb}
+use borrow.Author.Tests.{ltb-false, leb-false, eqb-true, eqb-false, not-false, le-ltb, lt-leb, eq-eqb, ne-eqb}
 use Rattle.lists.specs.Lists.{range, sumsFrom, concat, elem, repeats, lacks, reaches, fallsFrom}
 use Rattle.lists.proofs.Or.{or-none, none-or, or-second, not-so}
 
@@ -163,11 +162,6 @@ unfolding range
 range-append a zero m = rw (add-zero, zero-add)
 range-append a (suc n) m = rw (suc-add, add-suc, ← suc-add a n, range-append (suc a) n m)
 
--- one number more
-pub range-more : (a n : ℕ) → range a n ++ (a + n) ∷ [] ≡ range a (suc n)
-unfolding range
-range-more a n = range-append a n 1 ∙ rw add-one
-
 -- what is in a range
 pub elem-range : (x a n : ℕ) → elem x (range a n) ≡ true → (a ≤ x) × (x < a + n)
 unfolding range elem
@@ -255,14 +249,6 @@ full-length m l e h f =
     let long = covers-long m l f in
     omega arith
 
--- more than m numbers of 1 to m: one repeats
-pub long-repeats : (m : ℕ) (l : List ℕ) → InRange m l → m < length l → repeats l ≡ true
-long-repeats m l h n = go (repeats l) refl
-  where
-    go : (b : Bool) → repeats l ≡ b → b ≡ true
-    go true q = refl
-    go false q = absurd (not-le-of-lt n (distinct-short m l q h))
-
 -- Numbers under a limit.
 
 -- each number of the list is under the limit
@@ -274,33 +260,12 @@ reaches-elem limit (y ∷ l) e x f =
     let low = leb-false limit y (p .0) in
     elem-cases x y l f (λ (q : x ≡ y). omega arith) (reaches-elem limit l (p .1) x)
 
--- the same by place
-pub reaches-getD : (limit : ℕ) (l : List ℕ) → reaches limit l ≡ false → (i d : ℕ) → i < length l → getD l i d < limit
-unfolding reaches
-reaches-getD limit [] e i d h = absurd (not-suc-le-zero h)
-reaches-getD limit (y ∷ l) e zero d h = leb-false limit y (or-none (leb limit y) (reaches limit l) e .0)
-reaches-getD limit (y ∷ l) e (suc i) d h = reaches-getD limit l (or-none (leb limit y) (reaches limit l) e .1) i d (le-of-suc-le-suc h)
-
 -- a list of numbers under the limit
 pub elem-reaches : (limit : ℕ) (l : List ℕ) → ((x : ℕ) → elem x l ≡ true → x < limit) → reaches limit l ≡ false
 unfolding reaches
 elem-reaches limit [] h = refl
 elem-reaches limit (y ∷ l) h =
     none-or (leb limit y) (reaches limit l) (lt-leb limit y (h y (elem-first y l))) (elem-reaches limit l (λ x e. h x (elem-later x y l e)))
-
--- the same by place
-pub getD-reaches : (limit : ℕ) (l : List ℕ) → ((i : ℕ) → i < length l → getD l i 0 < limit) → reaches limit l ≡ false
-unfolding reaches
-getD-reaches limit [] h = refl
-getD-reaches limit (y ∷ l) h =
-    none-or (leb limit y) (reaches limit l) (lt-leb limit y (h 0 (omega arith))) (getD-reaches limit l (λ i k. h (suc i) (omega arith)))
-
--- a list with a number of the limit or more at a place
-pub reaches-at : (limit : ℕ) (l : List ℕ) (i d : ℕ) → i < length l → limit ≤ getD l i d → reaches limit l ≡ true
-unfolding reaches
-reaches-at limit [] i d h k = absurd (not-suc-le-zero h)
-reaches-at limit (y ∷ l) zero d h k = rw (le-leb limit y k)
-reaches-at limit (y ∷ l) (suc i) d h k = or-second (leb limit y) (reaches limit l) (reaches-at limit l i d (le-of-suc-le-suc h) k)
 
 -- a list under a limit is under each greater one
 pub reaches-weaken : (small large : ℕ) (l : List ℕ) → small ≤ large → reaches small l ≡ false → reaches large l ≡ false
@@ -374,12 +339,6 @@ pub last-sums : (a d : ℕ) (rows : List (List ℕ)) → getD (sumsFrom a (map l
 unfolding sumsFrom concat
 last-sums a d [] = omega arith
 last-sums a d (row ∷ rows) = last-sums (a + length row) d rows ∙ simp length-append (omega arith)
-
--- rows laid end to end
-pub concat-append : (a b : List (List ℕ)) → concat (a ++ b) ≡ concat a ++ concat b
-unfolding concat
-concat-append [] b = refl
-concat-append (row ∷ a) b = rw (concat-append a b, append-assoc)
 
 -- a function at each number of each row
 pub map-concat : (f : ℕ → ℕ) (rows : List (List ℕ)) → concat (map (λ (row : List ℕ). map f row) rows) ≡ map f (concat rows)

@@ -1,20 +1,13 @@
 // Every lent list one short, at its need and longer, in all combinations, for one graph.
-ghost use Prim.Native.Nat.{_<_};
 use crate::drawn;
 use testkit::reading::Lengths;
 use testkit::sample::file_length;
 use testkit::tally::Tally;
+use testkit::words::extra;
 
 const VERTICES: u16 = 37;
 
 const EDGES: u16 = 101;
-
-// How many places a list has beyond one short of its need: 0, 1 or 6.
-fn extra(choice: u16) -> usize
-    ensures { λ r. ⌜ r < 100000 ⌝ }
-{
-    if choice == 2 { 6 } else { choice as usize }
-}
 
 // The lists' lengths: the combination's digits to the base 3 choose them.
 fn lengths(combination: u16) -> Lengths {

@@ -1,20 +1,13 @@
 // The lists of a call of the writer one short, at their need and longer, in all combinations, for
 // one graph. The writer reads its sizes off the rows' lengths, so that only the bytes may be longer.
-ghost use Prim.Native.Nat.{_<_};
 use crate::drawn;
 use testkit::tally::Tally;
+use testkit::words::extra;
 use testkit::writing::Lengths;
 
 const VERTICES: u16 = 37;
 
 const EDGES: u16 = 101;
-
-// How many places a list has beyond one short of its need: 0, 1 or 6.
-fn extra(choice: u16) -> usize
-    ensures { λ r. ⌜ r < 100000 ⌝ }
-{
-    if choice == 2 { 6 } else { choice as usize }
-}
 
 // The lists' lengths: the combination's digits to the base 3 choose them. The file has 482 bytes.
 fn lengths(combination: u16) -> Lengths {

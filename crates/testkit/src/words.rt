@@ -1,4 +1,5 @@
 // Lists of 16-bit numbers: guarded places, contents that are known at every place, comparisons.
+ghost use Prim.Native.Nat.{_<_};
 ghost use Rattle.io.specs.Counts.{Counts};
 
 // What stands at the place, or 0 past the end.
@@ -88,4 +89,11 @@ pub fn agree(a: &[u16], b: &[u16], count: usize) -> bool {
 // What stands at a place of any size, or 0 past the end.
 pub fn at_place(list: &[u16], place: usize) -> u16 {
     if place < list.len() { list[place] } else { 0 }
+}
+
+// How many places a list has beyond one short of its need: 0, 1 or 6.
+pub fn extra(choice: u16) -> usize
+    ensures { λ r. ⌜ r < 100000 ⌝ }
+{
+    if choice == 2 { 6 } else { choice as usize }
 }
