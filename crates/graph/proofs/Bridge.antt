@@ -1,7 +1,7 @@
 -- Rows as the graph, and offsets with targets, are the same thing: each is got back from the other, and the view of a vertex is its row.
 use mathlib.Core.Path.{_≡_, refl, ap, ap₂, _∙_}
 use mathlib.Core.Bool.{false, not, _||_}
-use mathlib.Core.List.{List, [], _∷_, _++_, map, append-assoc}
+use mathlib.Core.List.{List, [], _∷_, _++_, map, append-assoc, flatten}
 use Prim.Native.Nat.{ℕ, zero, suc, pred, _+_, _-_, _≤_, _<_}
 use native.Mathlib.Nat.{not-suc-le-zero, le-of-suc-le-suc}
 use native.Mathlib.Numerals.{add-one}
@@ -13,7 +13,7 @@ use borrow.Author.Tests.{ltb-false, eqb-true, eqb-false, not-false, lt-ltb, le-l
 use Rattle.numbers.specs.Numbers.{maxVertices, maxEdges, badRows}
 use Rattle.numbers.specs.Refusals.{first}
 use Rattle.numbers.proofs.First.{first-skip}
-use Rattle.lists.specs.Lists.{sumsFrom, concat, reaches, fallsFrom}
+use Rattle.lists.specs.Lists.{sumsFrom, reaches, fallsFrom}
 use Rattle.lists.proofs.Or.{or-none, none-or}
 use Rattle.lists.proofs.Tests.{falls-none, falls-self, falls-mono, length-sums, falls-sums, first-sums, last-sums}
 use Rattle.graph.specs.Graph.{Graph, edges, offsetsOf, targetsOf, rowsOf}
@@ -71,9 +71,9 @@ some-offsets [] h = absurd (not-suc-le-zero h)
 some-offsets (a ∷ offsets) h = omega arith
 
 -- what the writer's test finds nothing wrong with
-pub accepted : (offsets targets : List ℕ) → malformed offsets targets ≡ false → Accepted offsets targets
+pub accept-rows : (offsets targets : List ℕ) → malformed offsets targets ≡ false → Accepted offsets targets
 unfolding malformed
-accepted offsets targets e =
+accept-rows offsets targets e =
     let n = rowCount offsets in
     let sizes = outsideSizes n (length targets) in
     let empty = eqb (length offsets) 0 in
@@ -176,7 +176,7 @@ links-number offsets targets r u h = first-skip (outOfView offsets targets u) ba
 -- the view of a vertex is its row
 pub links-edges : (offsets targets : List ℕ) → Rows offsets targets → (u : ℕ) → u < rowCount offsets → linksOf offsets targets u ≡ edges (rowsOf offsets targets) u
 unfolding linksOf
-links-edges offsets targets r u h = rw (in-view offsets targets r u h, add-one, row-at offsets targets u h)
+links-edges offsets targets r u h = rw (in-view offsets targets r u h)
 
 -- the rows that the running sums of lengths cut out
 rows-step : (a b : ℕ) (l targets : List ℕ) → rowsOf (a ∷ sumsFrom b l) targets ≡ take (b - a) (drop a targets) ∷ rowsOf (sumsFrom b l) targets
@@ -190,13 +190,13 @@ first-row before row rest =
     let size : (length before + length row) - length before ≡ length row = omega arith in
     rw (size, drop-append-seam, take-append-seam)
 
-rows-behind : (before : List ℕ) (g : Graph) → rowsOf (sumsFrom (length before) (map length g)) (before ++ concat g) ≡ g
-unfolding rowsOf sumsFrom concat
+rows-behind : (before : List ℕ) (g : Graph) → rowsOf (sumsFrom (length before) (map length g)) (before ++ flatten g) ≡ g
+unfolding rowsOf sumsFrom flatten
 rows-behind before [] = refl
 rows-behind before (row ∷ g) =
-    rows-step (length before) (length before + length row) (map length g) (before ++ (row ++ concat g))
-    ∙ ap₂ (λ (r : List ℕ) (rest : Graph). r ∷ rest) (first-row before row (concat g))
-    (rw (← append-assoc before row (concat g), ← length-append before row) (rows-behind (before ++ row) g))
+    rows-step (length before) (length before + length row) (map length g) (before ++ (row ++ flatten g))
+    ∙ ap₂ (λ (r : List ℕ) (rest : Graph). r ∷ rest) (first-row before row (flatten g))
+    (rw (← append-assoc before row (flatten g), ← length-append before row) (rows-behind (before ++ row) g))
 
 -- offsets and targets of a graph give the graph back
 pub graph-again : (g : Graph) → rowsOf (offsetsOf g) (targetsOf g) ≡ g
@@ -204,7 +204,7 @@ unfolding offsetsOf targetsOf
 graph-again g = rows-behind [] g
 
 -- a row between two offsets that do not fall or pass the end
-row-between : (a b : ℕ) (targets : List ℕ) → a ≤ b → b ≤ length targets → a + length (take (b - a) (drop a targets)) ≡ b
+pub row-between : (a b : ℕ) (targets : List ℕ) → a ≤ b → b ≤ length targets → a + length (take (b - a) (drop a targets)) ≡ b
 row-between a b targets h k = simp (length-take, length-drop) (omega arith)
 
 row-and-rest : (a b : ℕ) (targets : List ℕ) → a ≤ b → take (b - a) (drop a targets) ++ drop b targets ≡ drop a targets
@@ -224,8 +224,8 @@ sums-from a (b ∷ rest) targets e f =
     ap (λ (l : List ℕ). a ∷ l) (rw (row-between a b targets (p .0) inside) (sums-from b rest targets (p .1) f))
 
 rows-from : (a : ℕ) (rest targets : List ℕ) → fallsFrom a rest ≡ false → getD (a ∷ rest) (length rest) 0 ≡ length targets
-    → concat (rowsOf (a ∷ rest) targets) ≡ drop a targets
-unfolding rowsOf concat
+    → flatten (rowsOf (a ∷ rest) targets) ≡ drop a targets
+unfolding rowsOf flatten
 rows-from a [] targets e f = rw (f, drop-length)
 rows-from a (b ∷ rest) targets e f =
     let p = falls-none a b rest e in
@@ -257,19 +257,19 @@ graph-links g u h = links-edges (offsetsOf g) (targetsOf g) (graph-rows g) u (rw
 
 module _ (offsets targets : List ℕ) (e : malformed offsets targets ≡ false) where
   pub accepted-offsets : offsetsOf (rowsOf offsets targets) ≡ offsets
-  accepted-offsets = offsets-again offsets targets (accepted offsets targets e .rows)
+  accepted-offsets = offsets-again offsets targets (accept-rows offsets targets e .rows)
 
   pub accepted-targets : targetsOf (rowsOf offsets targets) ≡ targets
-  accepted-targets = targets-again offsets targets (accepted offsets targets e .rows)
+  accepted-targets = targets-again offsets targets (accept-rows offsets targets e .rows)
 
   pub accepted-below : reaches (rowCount offsets) targets ≡ false
-  accepted-below = accepted offsets targets e .below
+  accepted-below = accept-rows offsets targets e .below
 
   pub accepted-links : (u : ℕ) → u < rowCount offsets → linksOf offsets targets u ≡ edges (rowsOf offsets targets) u
-  accepted-links = links-edges offsets targets (accepted offsets targets e .rows)
+  accepted-links = links-edges offsets targets (accept-rows offsets targets e .rows)
 
   pub accepted-links-number : (u : ℕ) → u < rowCount offsets → linksNumber offsets targets u ≡ 0
-  accepted-links-number = links-number offsets targets (accepted offsets targets e .rows)
+  accepted-links-number = links-number offsets targets (accept-rows offsets targets e .rows)
 
 -- A graph within the sizes, each target a vertex: what can be written, and what is read.
 pub record Fits (g : Graph) : Type 0 where
@@ -291,7 +291,7 @@ fits-accepted g f = not-malformed (offsetsOf g) (targetsOf g) (record {
 -- and what the writer accepts is one
 pub accepted-fits : (offsets targets : List ℕ) → malformed offsets targets ≡ false → Fits (rowsOf offsets targets)
 accepted-fits offsets targets e =
-    let a = accepted offsets targets e in
+    let a = accept-rows offsets targets e in
     let n = length-rows offsets targets in
     let t = accepted-targets offsets targets e in
     record { some = rw n (a .someVertices); fewVertices = rw n (a .fewVertices); fewEdges = rw t (a .fewEdges); below = rw (n, t) (a .below) }

@@ -1,10 +1,9 @@
 -- Facts about the parts of an encoding: how long each is, and that the words of its bytes are its words.
 use mathlib.Core.Path.{_≡_, refl, ap}
-use mathlib.Core.List.{List, [], _∷_}
+use mathlib.Core.List.{List, [], _∷_, flatten}
 use Prim.Native.Nat.{ℕ, zero, suc, _+_, _*_, _/_, _%_}
 use native.Mathlib.Omega.{arith}
 use lib.ListN.{length, getD, length-append}
-use Rattle.lists.specs.Lists.{concat}
 use Rattle.graph.specs.Graph.{Graph, targetsOf}
 use Rattle.graph.specs.File.{word}
 use Rattle.graph.specs.Encode.{headsFrom, rowRecords, recordsFrom, bytesOf}
@@ -43,9 +42,9 @@ length-row k (t ∷ row) = let h = length-row (suc k) row in omega arith
 
 -- and for each record of all rows
 pub length-records : (k : ℕ) (g : Graph) → length (recordsFrom k g) ≡ 2 * length (targetsOf g)
-unfolding recordsFrom targetsOf concat
+unfolding recordsFrom targetsOf flatten
 length-records k [] = refl
 length-records k (row ∷ g) =
     let a = length-append (rowRecords k row) (recordsFrom (k + length row) g) in
-    let b = length-append row (concat g) in
+    let b = length-append row (flatten g) in
     omega (arith, length-row k row, length-records (k + length row) g)

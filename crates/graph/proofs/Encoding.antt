@@ -1,6 +1,6 @@
 -- Facts about the encoding of rows: which word stands at each place of their file.
 use mathlib.Core.Path.{_≡_, refl, sym, ap, _∙_, subst}
-use mathlib.Core.List.{List, [], _∷_, _++_}
+use mathlib.Core.List.{List, [], _∷_, _++_, flatten}
 use Prim.Native.Nat.{ℕ, zero, suc, _+_, _*_, _-_, _≤_, _<_}
 use native.Mathlib.Nat.{le-of-suc-le-suc, not-suc-le-zero, le-trans, le-of-eq}
 use native.Mathlib.Numerals.{add-one}
@@ -8,12 +8,11 @@ use native.Mathlib.Omega.{arith}
 use lib.ListN.{length, getD, take, drop, length-append, length-drop, List·getD-append}
 use lib.Seq.{getD-take, getD-drop, length-take-le}
 use borrow.Author.Tests.{eq-eqb, ne-eqb}
-use Rattle.lists.specs.Lists.{concat}
 use Rattle.lists.proofs.Rows.{Rising, ends, rises, rising-below, rising-above, rising-step, Two, two-same, two-behind, two-before, two-later}
 use Rattle.graph.specs.Graph.{Graph, targetsOf, rowsOf}
 use Rattle.graph.specs.Encode.{headOf, headsFrom, rowRecords, recordsFrom, fileWords}
 use Rattle.graph.specs.WriteSteps.{indexAfter}
-use Rattle.graph.proofs.Bridge.{length-rows}
+use Rattle.graph.proofs.Bridge.{length-rows, row-between}
 use Rattle.graph.proofs.EncodeFacts.{length-heads, length-row, length-records}
 
 -- the index is that of equal numbers
@@ -39,12 +38,9 @@ module _ (targets : List ℕ) where
   row-size : (a b : ℕ) → a ≤ b → b ≤ length targets → length (take (b - a) (drop a targets)) ≡ b - a
   row-size a b h k = length-take-le (b - a) (drop a targets) (rw length-drop (omega arith))
 
-  row-end : (a b : ℕ) → a ≤ b → b ≤ length targets → a + length (take (b - a) (drop a targets)) ≡ b
-  row-end a b h k = omega (arith, row-size a b h k)
-
   -- the rows have all targets from their first offset on
   length-targets : {a : ℕ} {offsets : List ℕ} → Rising (length targets) a offsets → a + length (targetsOf (rowsOf (a ∷ offsets) targets)) ≡ length targets
-  unfolding rowsOf targetsOf concat
+  unfolding rowsOf targetsOf flatten
   length-targets (ends e) = omega arith
   length-targets (rises {a} {b} {xs} h r) =
       rw (length-append (take (b - a) (drop a targets)) (targetsOf (rowsOf (b ∷ xs) targets))) (omega (arith, row-size a b h (rising-below r 0), length-targets r))
@@ -54,9 +50,9 @@ module _ (targets : List ℕ) where
       → getD (headsFrom a (rowsOf (a ∷ offsets) targets)) u 0 ≡ indexAfter (getD (a ∷ offsets) u 0) (getD offsets u 0)
   unfolding rowsOf headsFrom
   head-at (ends e) u h = absurd (not-suc-le-zero h)
-  head-at (rises {a} {b} {xs} h r) zero k = headOf-index a (take (b - a) (drop a targets)) ∙ same-index refl (row-end a b h (rising-below r 0))
+  head-at (rises {a} {b} {xs} h r) zero k = headOf-index a (take (b - a) (drop a targets)) ∙ same-index refl (row-between a b targets h (rising-below r 0))
   head-at (rises {a} {b} {xs} h r) (suc u) k =
-      ap (λ (x : ℕ). getD (headsFrom x (rowsOf (b ∷ xs) targets)) u 0) (row-end a b h (rising-below r 0)) ∙ head-at r u (le-of-suc-le-suc k)
+      ap (λ (x : ℕ). getD (headsFrom x (rowsOf (b ∷ xs) targets)) u 0) (row-between a b targets h (rising-below r 0)) ∙ head-at r u (le-of-suc-le-suc k)
 
   -- the record of edge k of vertex u
   record-at : {a : ℕ} {offsets : List ℕ} → Rising (length targets) a offsets → (u k : ℕ) → u < length offsets → getD (a ∷ offsets) u 0 ≤ k → k < getD offsets u 0
@@ -78,7 +74,7 @@ module _ (targets : List ℕ) where
       let low : b ≤ getD (b ∷ xs) u 0 = rising-above r u (omega arith) in
       subst
       (λ (x : ℕ). Two (rowRecords a row ++ recordsFrom x (rowsOf (b ∷ xs) targets)) (2 * (k - a)) (getD targets k 0) (indexAfter (k + 1) (getD xs u 0)))
-      (sym (row-end a b h (rising-below r 0)))
+      (sym (row-between a b targets h (rising-below r 0)))
       (two-same (two-behind (record-at r u k (le-of-suc-le-suc i) l m) (rowRecords a row)) (omega (arith, length-row a row)) refl refl)
 
 -- what the code needs to know of rows that are not malformed: their offsets, and each word of their file

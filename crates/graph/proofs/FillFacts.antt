@@ -1,16 +1,16 @@
 -- The walk that writes rows: what holds between its steps, that each step keeps it, and that at the end all rows are written.
 use mathlib.Core.Path.{_≡_, refl, sym, ap, _∙_}
-use mathlib.Core.List.{List, [], _∷_, _++_, map}
+use mathlib.Core.List.{List, [], _∷_, _++_, map, flatten}
 use Prim.Native.Nat.{ℕ, suc, _+_, _-_, _≤_, _<_}
 use native.Mathlib.Nat.{add-zero}
 use native.Mathlib.Numerals.{add-one}
 use native.Mathlib.Omega.{arith}
 use lib.ListN.{length, set, take, drop, length-map}
-use Rattle.lists.specs.Lists.{overlay, sumsFrom, concat}
+use Rattle.lists.specs.Lists.{overlay, sumsFrom}
 use Rattle.lists.proofs.Overlay.{overlay-store, overlay-all}
 use Rattle.lists.proofs.Parts.{Next, drop-next, drop-done}
 use Rattle.graph.specs.Graph.{offsetsOf, targetsOf}
-use Rattle.graph.specs.File.{edgeCount, head, target, next, chain, chains, reached, graphOf}
+use Rattle.graph.specs.File.{edgeCount, headIndex, target, next, chain, chains, reached, graphOf}
 use Rattle.graph.specs.Steps.{Chained}
 use Rattle.graph.proofs.Bridge.{length-offsets}
 use Rattle.graph.proofs.FileLists.{length-graph}
@@ -24,7 +24,7 @@ pub record Filling (file : List ℕ) (n m : ℕ) (offsets₀ targets₀ offsets 
   pub starts : offsets ≡ overlay (take vertex (offsetsOf (graphOf file))) offsets₀
   pub ends : targets ≡ overlay (take count (targetsOf (graphOf file))) targets₀
   pub rows : drop vertex (offsetsOf (graphOf file)) ≡ sumsFrom (count + length (chain file steps index)) (map length (chainsFrom file vertex))
-  pub rest : drop count (targetsOf (graphOf file)) ≡ map (target file) (chain file steps index ++ concat (chainsFrom file vertex))
+  pub rest : drop count (targetsOf (graphOf file)) ≡ map (target file) (chain file steps index ++ flatten (chainsFrom file vertex))
   pub short : length (chain file steps index) < steps
   pub inside : index ≤ m
   pub passed : vertex ≤ n
@@ -42,7 +42,7 @@ fill-start file {n} {m} offsets targets = record {
   starts = refl;
   ends = refl;
   rows = rw (chain-end file 1) (ap (sumsFrom 0) (row-lengths file (chains file) ∙ ap (λ (rows : List (List ℕ)). map length rows) (chains-all file)));
-  rest = rw (chain-end file 1) (graph-targets file ∙ ap (λ (rows : List (List ℕ)). map (target file) (concat rows)) (chains-all file));
+  rest = rw (chain-end file 1) (graph-targets file ∙ ap (λ (rows : List (List ℕ)). map (target file) (flatten rows)) (chains-all file));
   short = rw (chain-end file 1) (omega arith);
   inside = omega arith;
   passed = omega arith;
@@ -64,7 +64,7 @@ module _ (file : List ℕ) {n m : ℕ} (s : Chained file n m) {offsets₀ target
     at-end : drop vertex (offsetsOf (graphOf file)) ≡ sumsFrom count (map length (chainsFrom file vertex))
     at-end = rw (end, chain-end file (w .steps), add-zero count) at (w .rows)
 
-    left : drop count (targetsOf (graphOf file)) ≡ map (target file) (concat (chainsFrom file vertex))
+    left : drop count (targetsOf (graphOf file)) ≡ map (target file) (flatten (chainsFrom file vertex))
     left = rw (end, chain-end file (w .steps)) at (w .rest)
 
     -- that offset is written
@@ -83,9 +83,9 @@ module _ (file : List ℕ) {n m : ℕ} (s : Chained file n m) {offsets₀ target
       unfolding sumsFrom
       rows-next = rw there at at-end
 
-      pub fill-head : {r : ℕ} → r ≡ head file vertex → n < length offsets₀
+      pub fill-head : {r : ℕ} → r ≡ headIndex file vertex → n < length offsets₀
           → Filling file n m offsets₀ targets₀ (set offsets vertex count) targets (vertex + 1) r count
-      unfolding chainOf concat
+      unfolding chainOf flatten
       fill-head {r} e long = record {
         steps = suc (edgeCount file);
         starts = stored refl rows-next long;
@@ -108,7 +108,7 @@ module _ (file : List ℕ) {n m : ℕ} (s : Chained file n m) {offsets₀ target
           stored refl (rw none at at-end) long ∙ overlay-all (offsetsOf (graphOf file)) offsets₀ (vertex + 1) (omega (arith, offsets-long))
 
       pub fill-targets : targets ≡ overlay (targetsOf (graphOf file)) targets₀
-      unfolding concat
+      unfolding flatten
       fill-targets = w .ends ∙ overlay-all (targetsOf (graphOf file)) targets₀ count (drop-done (targetsOf (graphOf file)) count (rw none at left))
 
   -- At a record.
@@ -118,7 +118,7 @@ module _ (file : List ℕ) {n m : ℕ} (s : Chained file n m) {offsets₀ target
         let more : w .steps ≡ suc (w .steps - 1) = omega (arith, w .short) in
         ap (λ (k : ℕ). chain file k index) more ∙ chain-step file (w .steps - 1) index some
 
-    met : Next (targetsOf (graphOf file)) count (target file index) (map (target file) (chain file (w .steps - 1) (next file index) ++ concat (chainsFrom file vertex)))
+    met : Next (targetsOf (graphOf file)) count (target file index) (map (target file) (chain file (w .steps - 1) (next file index) ++ flatten (chainsFrom file vertex)))
     met = drop-next (targetsOf (graphOf file)) count (target file index) _ (rw here at (w .rest))
 
     -- there is room for its target

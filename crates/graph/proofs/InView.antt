@@ -3,6 +3,7 @@ use mathlib.Core.Bool.{Bool, true, false, not, _||_}
 use mathlib.Core.Path.{_≡_, refl, sym, _∙_}
 use mathlib.Core.List.{List, [], _∷_}
 use Prim.Native.Nat.{ℕ, _+_, _-_, _≤_, _<_}
+use native.Mathlib.Numerals.{add-one}
 use native.Mathlib.Omega.{arith}
 use lib.Dec.{ltb}
 use lib.ListN.{length, getD, take, drop}
@@ -11,7 +12,9 @@ use Rattle.numbers.specs.Numbers.{success, badRows}
 use Rattle.numbers.specs.Refusals.{_gives_, first}
 use Rattle.numbers.proofs.First.{first-passed}
 use Rattle.lists.proofs.Or.{or-none}
+use Rattle.graph.specs.Graph.{edges, rowsOf}
 use Rattle.graph.specs.Links.{outOfView, linksNumber, linksOf}
+use Rattle.graph.proofs.Bridge.{offsets-count, row-at}
 
 -- the number where the vertex has two offsets, by the tests on these
 module _ (offsets targets : List ℕ) (u start end : ℕ) (two : 2 ≤ length offsets) (inside : u < length offsets - 1) (s : start ≡ getD offsets u 0) (e : end ≡ getD offsets (u + 1) 0) where
@@ -38,7 +41,14 @@ pub record InView (offsets targets : List ℕ) (u : ℕ) : Type 0 where
   pub inside : u + 1 < length offsets
   pub rises : getD offsets u 0 ≤ getD offsets (u + 1) 0
   pub ends : getD offsets (u + 1) 0 ≤ length targets
-  pub part : linksOf offsets targets u ≡ take (getD offsets (u + 1) 0 - getD offsets u 0) (drop (getD offsets u 0) targets)
+  pub part : linksOf offsets targets u ≡ edges (rowsOf offsets targets) u
+
+-- that part, by the two offsets
+pub part-between : {offsets targets : List ℕ} {u start end : ℕ} → InView offsets targets u → start ≡ getD offsets u 0 → end ≡ getD offsets (u + 1) 0
+    → take (end - start) (drop start targets) ≡ linksOf offsets targets u
+part-between {offsets} {targets} {u} view s e =
+    let count = offsets-count offsets (omega (arith, view .inside)) in
+    rw (s, e, add-one) (sym (view .part ∙ row-at offsets targets u (omega (arith, view .inside))))
 
 module _ (offsets targets : List ℕ) (u r : ℕ) (e : r ≡ linksNumber offsets targets u) where
   -- an empty part where 11 holds

@@ -2,7 +2,7 @@
 use mathlib.Core.Path.{_≡_, refl, sym, ap, _∙_}
 use mathlib.Core.Logic.{_≢_}
 use mathlib.Core.Bool.{Bool, true, false, cond, or-false}
-use mathlib.Core.List.{List, [], _∷_, _++_, append-assoc, append-nil}
+use mathlib.Core.List.{List, [], _∷_, _++_, append-assoc, append-nil, flatten}
 use Prim.Native.Nat.{ℕ, suc, _+_, _-_, _≤_, _<_}
 use native.Mathlib.Numerals.{add-one}
 use native.Mathlib.Omega.{arith}
@@ -12,10 +12,10 @@ use lib.Seq.{getD-set-same, getD-set-other}
 use borrow.Author.Tests.{eqb-true, eqb-false}
 use Rattle.numbers.specs.Numbers.{success, repeated, unreached}
 use Rattle.numbers.specs.Refusals.{first}
-use Rattle.lists.specs.Lists.{concat, elem, repeats}
+use Rattle.lists.specs.Lists.{elem, repeats}
 use Rattle.lists.proofs.Or.{or-second}
 use Rattle.lists.proofs.Tests.{elem-append, repeats-append, repeats-again, InRange, in-range-nil, in-range-append, in-range-one, distinct-short, distinct-full, short-lacks}
-use Rattle.graph.specs.File.{head, next, chain, reached}
+use Rattle.graph.specs.File.{headIndex, next, chain, reached}
 use Rattle.graph.specs.Read.{chainRefusals}
 use Rattle.graph.specs.Steps.{Scanned}
 use Rattle.graph.proofs.ScanFacts.{head-within, next-within}
@@ -29,7 +29,7 @@ mark met = cond met 1 0
 pub record Marking (file : List ℕ) (n m : ℕ) (marks : List ℕ) (vertex index count : ℕ) : Type 0 where
   pub met : List ℕ
   pub steps : ℕ
-  pub rest : reached file ≡ met ++ (chain file steps index ++ concat (chainsFrom file vertex))
+  pub rest : reached file ≡ met ++ (chain file steps index ++ flatten (chainsFrom file vertex))
   pub distinct : repeats met ≡ false
   pub ranged : InRange m met
   pub counted : length met ≡ count
@@ -68,7 +68,7 @@ unfolding reached elem repeats
 mark-start file {n} {m} marks zeros = record {
   met = [];
   steps = suc m;
-  rest = rw (chain-end file (suc m)) (ap concat (chains-all file));
+  rest = rw (chain-end file (suc m)) (ap flatten (chains-all file));
   distinct = refl;
   ranged = in-range-nil m;
   counted = refl;
@@ -80,9 +80,9 @@ mark-start file {n} {m} marks zeros = record {
 
 module _ (file : List ℕ) {n m : ℕ} (s : Scanned file n m) (marks : List ℕ) where
   -- at a chain's end the walk goes to the next vertex's head
-  pub mark-head : {vertex index count r : ℕ} → Marking file n m marks vertex index count → index ≡ 0 → vertex < n → r ≡ head file vertex
+  pub mark-head : {vertex index count r : ℕ} → Marking file n m marks vertex index count → index ≡ 0 → vertex < n → r ≡ headIndex file vertex
       → Marking file n m marks (vertex + 1) r count
-  unfolding chainOf concat
+  unfolding chainOf flatten
   mark-head {vertex} {index} {count} {r} w end h e = record {
     met = w .met;
     steps = suc m;
@@ -98,12 +98,12 @@ module _ (file : List ℕ) {n m : ℕ} (s : Scanned file n m) (marks : List ℕ)
 
   module _ {vertex index count : ℕ} (w : Marking file n m marks vertex index count) (some : index ≡ 0 → ⊥) where
     -- a record is met
-    here : reached file ≡ w .met ++ (index ∷ (chain file (w .steps - 1) (next file index) ++ concat (chainsFrom file vertex)))
+    here : reached file ≡ w .met ++ (index ∷ (chain file (w .steps - 1) (next file index) ++ flatten (chainsFrom file vertex)))
     here =
         let few = distinct-short m (w .met) (w .distinct) (w .ranged) in
         let more : w .steps ≡ suc (w .steps - 1) = omega (arith, w .counted, w .enough) in
         w .rest
-        ∙ ap (λ (l : List ℕ). w .met ++ (l ++ concat (chainsFrom file vertex)))
+        ∙ ap (λ (l : List ℕ). w .met ++ (l ++ flatten (chainsFrom file vertex)))
         (ap (λ (k : ℕ). chain file k index) more ∙ chain-step file (w .steps - 1) index some)
 
     -- its mark says whether it was met before
@@ -117,7 +117,7 @@ module _ (file : List ℕ) {n m : ℕ} (s : Scanned file n m) (marks : List ℕ)
     unfolding first chainRefusals
     mark-again h =
         let again : repeats (reached file) ≡ true =
-        ap repeats here ∙ repeats-again (w .met) index (chain file (w .steps - 1) (next file index) ++ concat (chainsFrom file vertex)) (mark-on (elem index (w .met)) (λ e. h (known ∙ e))) in
+        ap repeats here ∙ repeats-again (w .met) index (chain file (w .steps - 1) (next file index) ++ flatten (chainsFrom file vertex)) (mark-on (elem index (w .met)) (λ e. h (known ∙ e))) in
         rw again
 
     -- it is new: it is marked and counted, and the walk goes to its next index
@@ -131,7 +131,7 @@ module _ (file : List ℕ) {n m : ℕ} (s : Scanned file n m) (marks : List ℕ)
         record {
           met = w .met ++ index ∷ [];
           steps = w .steps - 1;
-          rest = rw e (here ∙ sym (append-assoc (w .met) (index ∷ []) (chain file (w .steps - 1) (next file index) ++ concat (chainsFrom file vertex))));
+          rest = rw e (here ∙ sym (append-assoc (w .met) (index ∷ []) (chain file (w .steps - 1) (next file index) ++ flatten (chainsFrom file vertex))));
           distinct = distinct;
           ranged = ranged;
           counted = length-append (w .met) (index ∷ []) ∙ ap (λ (k : ℕ). k + 1) (w .counted);
@@ -150,7 +150,7 @@ module _ (file : List ℕ) {n m : ℕ} (s : Scanned file n m) (marks : List ℕ)
   -- the walk is over
   module _ {vertex index count : ℕ} (w : Marking file n m marks vertex index count) (end : index ≡ 0) (last : vertex ≡ n) where
     all : reached file ≡ w .met
-    unfolding concat
+    unfolding flatten
     all = rw (end, chain-end file (w .steps), chains-none file vertex (omega (arith, s .sized .vertices)), append-nil) at (w .rest)
 
     -- 6: fewer than m records were met

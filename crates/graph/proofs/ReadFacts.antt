@@ -9,23 +9,23 @@ use lib.ListN.{length, replicate}
 use borrow.Author.Tests.{ne-eqb, ltb-false}
 use Rattle.numbers.specs.Numbers.{success, badLength, badSize, badTarget, badIndex, repeated, unreached, shortList}
 use Rattle.numbers.specs.Refusals.{Refusal, _gives_, first}
-use Rattle.numbers.proofs.First.{Positive, first-stop, first-skip, first-append, first-append-stop}
+use Rattle.numbers.proofs.First.{first-stop, first-skip, first-append, first-append-stop}
 use Rattle.lists.specs.Lists.{overlay, elem}
 use Rattle.lists.proofs.Or.{or-none}
 use Rattle.graph.specs.File.{vertexCount, edgeCount}
-use Rattle.graph.specs.Read.{headerRefusals, scanRefusals, chainRefusals, rowsShort, readRefusals, readNumber, refusal, readAnswer, writesRows, clearsMarks, readExit, readOutcomeBy, readOutcome}
+use Rattle.graph.specs.Read.{headerRefusals, scanRefusals, chainRefusals, rowsShort, readRefusals, readNumber, refusalAnswer, answerWith, writesRows, clearsMarks, readExit, readOutcomeBy, outcomeOfRead}
 use Rattle.graph.specs.Steps.{headerAnswer, Sized, Unchained}
 use Rattle.graph.specs.declared.ReadAnswer.{ReadAnswer}
-use Rattle.graph.proofs.WellFormed.{header-sized}
+use Rattle.graph.proofs.WellFormed.{header-sized, positive-header, positive-scan}
 
 -- a number that is not 0 is positive
-positive : {k : ℕ} → (k ≡ 0 → ⊥) → 0 < k
-positive h = omega arith
+above-zero : {k : ℕ} → (k ≡ 0 → ⊥) → 0 < k
+above-zero h = omega arith
 
 -- a refusal before 5 and 6 leaves every list as it was
 kept-outcome : (number : ℕ) (file offsets targets marks : List ℕ) → (number ≡ 0 → ⊥) → clearsMarks number ≡ false
-    → readExit (refusal number) offsets targets marks ≡ readOutcomeBy number file offsets targets marks
-unfolding readOutcomeBy readAnswer writesRows
+    → readExit (refusalAnswer number) offsets targets marks ≡ readOutcomeBy number file offsets targets marks
+unfolding readOutcomeBy answerWith writesRows
 kept-outcome number file offsets targets marks h k = rw (ne-eqb number 0 h, k)
 
 -- the header's numbers are none of 5 and 6, and neither are the scan's
@@ -51,22 +51,22 @@ chain-clears false true = refl
 chain-clears false false = refl
 
 -- an answer has the number that it is made for
-answer-number : (k n m : ℕ) → readAnswer k n m .number ≡ k
-unfolding readAnswer
+answer-number : (k n m : ℕ) → answerWith k n m .number ≡ k
+unfolding answerWith
 answer-number k n m = go (eqb k success)
   where
-    go : (b : Bool) → (cond b (record { number = k; vertices = n; edges = m }) (refusal k)) .number ≡ k
+    go : (b : Bool) → (cond b (record { number = k; vertices = n; edges = m }) (refusalAnswer k)) .number ≡ k
     go true = refl
     go false = refl
 
 -- zeros beside a refusal
-answer-refused : (k n m : ℕ) → (k ≡ 0 → ⊥) → readAnswer k n m ≡ refusal k
-unfolding readAnswer
+answer-refused : (k n m : ℕ) → (k ≡ 0 → ⊥) → answerWith k n m ≡ refusalAnswer k
+unfolding answerWith
 answer-refused k n m h = rw (ne-eqb k 0 h)
 
 -- n and m beside 0
-answer-whole : (k n m : ℕ) → k ≡ 0 → readAnswer k n m ≡ record { number = 0; vertices = n; edges = m }
-unfolding readAnswer
+answer-whole : (k n m : ℕ) → k ≡ 0 → answerWith k n m ≡ record { number = 0; vertices = n; edges = m }
+unfolding answerWith
 answer-whole k n m h = rw h
 
 module _ (file : List ℕ) {a : ReadAnswer} (answered : a ≡ headerAnswer file) where
@@ -96,14 +96,6 @@ pub short-as : {file : List ℕ} {n m : ℕ} {b x : Bool} (offsets targets marks
     → rowsShort (vertexCount file) (edgeCount file) offsets targets marks ≡ x
 short-as offsets targets marks s e f = rw (← s .vertices, ← s .edges) (sym e ∙ f)
 
-positive-header : (file : List ℕ) → Positive (headerRefusals file)
-unfolding headerRefusals
-positive-header file = omega arith
-
-positive-scan : (file : List ℕ) → Positive (scanRefusals file)
-unfolding scanRefusals
-positive-scan file = omega arith
-
 module _ (file offsets targets marks : List ℕ) where
   -- whether a list is short
   abbrev short : Bool
@@ -116,7 +108,7 @@ module _ (file offsets targets marks : List ℕ) where
   -- the number is the header's
   number-header : (first (headerRefusals file) ≡ 0 → ⊥) → readNumber file offsets targets marks ≡ first (headerRefusals file)
   unfolding readNumber readRefusals headerRefusals scanRefusals
-  number-header h = first-append-stop (headerRefusals file) (scanRefusals file ++ later) (positive h)
+  number-header h = first-append-stop (headerRefusals file) (scanRefusals file ++ later) (above-zero h)
 
   module _ (passed : first (headerRefusals file) ≡ 0) where
     -- or the scan's
@@ -124,7 +116,7 @@ module _ (file offsets targets marks : List ℕ) where
     unfolding readNumber readRefusals headerRefusals scanRefusals
     number-scan h =
         first-append (headerRefusals file) (scanRefusals file ++ later) (positive-header file) passed
-        ∙ first-append-stop (scanRefusals file) later (positive h)
+        ∙ first-append-stop (scanRefusals file) later (above-zero h)
 
     module _ (clean : first (scanRefusals file) ≡ 0) where
       number-later : readNumber file offsets targets marks ≡ first later
@@ -142,15 +134,15 @@ module _ (file offsets targets marks : List ℕ) where
       number-chains h = number-later ∙ first-skip short shortList (chainRefusals file) h
 
   -- a refusal before 5 and 6
-  refuses : {number : ℕ} {a : ReadAnswer} → readNumber file offsets targets marks ≡ number → (number ≡ 0 → ⊥) → clearsMarks number ≡ false → a ≡ refusal number
-      → readExit a offsets targets marks ≡ readOutcome file offsets targets marks
-  unfolding readOutcome
+  refuses : {number : ℕ} {a : ReadAnswer} → readNumber file offsets targets marks ≡ number → (number ≡ 0 → ⊥) → clearsMarks number ≡ false → a ≡ refusalAnswer number
+      → readExit a offsets targets marks ≡ outcomeOfRead file offsets targets marks
+  unfolding outcomeOfRead
   refuses {number} n h k e =
       ap (λ (x : ReadAnswer). readExit x offsets targets marks) e ∙ kept-outcome number file offsets targets marks h k
       ∙ ap (λ (x : ℕ). readOutcomeBy x file offsets targets marks) (sym n)
 
   -- the reader's outcome is a refusal of the header
-  pub read-header : {a : ReadAnswer} → a ≡ headerAnswer file → (a .number ≡ 0 → ⊥) → readExit a offsets targets marks ≡ readOutcome file offsets targets marks
+  pub read-header : {a : ReadAnswer} → a ≡ headerAnswer file → (a .number ≡ 0 → ⊥) → readExit a offsets targets marks ≡ outcomeOfRead file offsets targets marks
   unfolding headerAnswer headerRefusals
   read-header {a} e h =
       let refused : first (headerRefusals file) ≡ 0 → ⊥ = λ z. h (header-number file e ∙ z) in
@@ -158,38 +150,38 @@ module _ (file offsets targets marks : List ℕ) where
       (e ∙ answer-refused (first (headerRefusals file)) (vertexCount file) (edgeCount file) refused)
 
   -- of the scan
-  pub read-scan : {a : ReadAnswer} {number : ℕ} → first (headerRefusals file) ≡ 0 → number ≡ first (scanRefusals file) → (number ≡ 0 → ⊥) → a ≡ refusal number
-      → readExit a offsets targets marks ≡ readOutcome file offsets targets marks
+  pub read-scan : {a : ReadAnswer} {number : ℕ} → first (headerRefusals file) ≡ 0 → number ≡ first (scanRefusals file) → (number ≡ 0 → ⊥) → a ≡ refusalAnswer number
+      → readExit a offsets targets marks ≡ outcomeOfRead file offsets targets marks
   unfolding scanRefusals
   read-scan {a} {number} p n h e =
       let refused : first (scanRefusals file) ≡ 0 → ⊥ = λ z. h (n ∙ z) in
-      refuses (number-scan p refused) refused (scan-keeps _ _ refused) (e ∙ ap refusal n)
+      refuses (number-scan p refused) refused (scan-keeps _ _ refused) (e ∙ ap refusalAnswer n)
 
   -- of a list
-  pub read-short : {a : ReadAnswer} → first (headerRefusals file) ≡ 0 → first (scanRefusals file) ≡ 0 → short ≡ true → a ≡ refusal shortList
-      → readExit a offsets targets marks ≡ readOutcome file offsets targets marks
+  pub read-short : {a : ReadAnswer} → first (headerRefusals file) ≡ 0 → first (scanRefusals file) ≡ 0 → short ≡ true → a ≡ refusalAnswer shortList
+      → readExit a offsets targets marks ≡ outcomeOfRead file offsets targets marks
   unfolding clearsMarks elem
   read-short p c h e = refuses (number-short p c h) (λ z. absurd (omega arith)) refl e
 
   module _ {number : ℕ} {offsets′ targets′ marks′ : List ℕ} (p : first (headerRefusals file) ≡ 0) (c : first (scanRefusals file) ≡ 0) (h : short ≡ false)
       (u : Unchained file (edgeCount file) number offsets targets marks offsets′ targets′ marks′) where
     -- the lists that the walk leaves are the outcome's
-    unchains : readExit (readAnswer number (vertexCount file) (edgeCount file)) offsets′ targets′ marks′ ≡ readOutcome file offsets targets marks
-    unfolding readOutcome readOutcomeBy chainRefusals
+    unchains : readExit (answerWith number (vertexCount file) (edgeCount file)) offsets′ targets′ marks′ ≡ outcomeOfRead file offsets targets marks
+    unfolding outcomeOfRead readOutcomeBy chainRefusals
     unchains =
         let clears : clearsMarks number ≡ true = ap clearsMarks (u .judged) ∙ chain-clears _ _ in
         let zeros : List ℕ = overlay (replicate (edgeCount file) 0) marks in
         let marked : marks′ ≡ cond (clearsMarks number) zeros marks = u .cleared ∙ ap (λ (b : Bool). cond b zeros marks) (sym clears) in
-        (λ i. record { answer = readAnswer number (vertexCount file) (edgeCount file); offsets = u .starts i; targets = u .ends i; marks = marked i })
+        (λ i. record { answer = answerWith number (vertexCount file) (edgeCount file); offsets = u .starts i; targets = u .ends i; marks = marked i })
         ∙ ap (λ (x : ℕ). readOutcomeBy x file offsets targets marks) (u .judged ∙ sym (number-chains p c h))
 
     -- of the chains
-    pub read-chains : {a : ReadAnswer} → (number ≡ 0 → ⊥) → a ≡ refusal number → readExit a offsets′ targets′ marks′ ≡ readOutcome file offsets targets marks
+    pub read-chains : {a : ReadAnswer} → (number ≡ 0 → ⊥) → a ≡ refusalAnswer number → readExit a offsets′ targets′ marks′ ≡ outcomeOfRead file offsets targets marks
     read-chains k e =
         ap (λ (x : ReadAnswer). readExit x offsets′ targets′ marks′) (e ∙ sym (answer-refused number (vertexCount file) (edgeCount file) k)) ∙ unchains
 
     -- or no refusal
     pub read-whole : {a : ReadAnswer} → number ≡ 0 → a ≡ record { number = 0; vertices = vertexCount file; edges = edgeCount file }
-        → readExit a offsets′ targets′ marks′ ≡ readOutcome file offsets targets marks
+        → readExit a offsets′ targets′ marks′ ≡ outcomeOfRead file offsets targets marks
     read-whole k e =
         ap (λ (x : ReadAnswer). readExit x offsets′ targets′ marks′) (e ∙ sym (answer-whole number (vertexCount file) (edgeCount file) k)) ∙ unchains

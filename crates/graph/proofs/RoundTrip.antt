@@ -1,7 +1,7 @@
 -- What is written is read back: the encoding of a graph within the sizes is refused nowhere, and its graph is the one that was written.
 use mathlib.Core.Path.{_≡_, refl, sym, ap, ap₂, _∙_}
 use mathlib.Core.Bool.{false}
-use mathlib.Core.List.{List, [], _∷_, _++_, map, map-append, map-map}
+use mathlib.Core.List.{List, [], _∷_, _++_, map, map-append, map-map, flatten}
 use Prim.Native.Nat.{ℕ, zero, suc, _+_, _*_, _/_, _%_, _≤_, _<_}
 use native.Mathlib.Nat.{not-suc-le-zero, le-of-suc-le-suc, zero-add, suc-add}
 use native.Mathlib.Omega.{arith}
@@ -12,16 +12,16 @@ use borrow.Author.Tests.{ltb-false, leb-false, lt-leb}
 use Rattle.numbers.specs.Numbers.{badRows, shortList}
 use Rattle.numbers.specs.Refusals.{first, _gives_}
 use Rattle.numbers.proofs.First.{first-passed}
-use Rattle.lists.specs.Lists.{range, concat, elem, reaches, overlay}
+use Rattle.lists.specs.Lists.{numbersFrom, elem, reaches, overlay}
 use Rattle.lists.proofs.Or.{or-none, none-or}
 use Rattle.lists.proofs.Tests.{reaches-append, reaches-weaken, range-append, repeats-range, elem-lacks}
 use Rattle.graph.specs.Graph.{Graph, offsetsOf, targetsOf, rowsOf}
-use Rattle.graph.specs.File.{word, wordsAt, vertexCount, edgeCount, fileLength, head, target, next, heads, recordTargets, recordNexts, chain, chains, reached, graphOf}
-use Rattle.graph.specs.Read.{headerRefusals, scanRefusals, chainRefusals, readNumber, readAnswer, writesRows, clearsMarks, readExit, readOutcomeBy, readOutcome}
-use Rattle.graph.specs.Write.{rowCount, malformed, writeRefusals, writeNumber, writeOutcomeBy, writeOutcome}
+use Rattle.graph.specs.File.{word, wordsAt, vertexCount, edgeCount, fileLength, headIndex, target, next, heads, recordTargets, recordNexts, chain, chains, reached, graphOf}
+use Rattle.graph.specs.Read.{headerRefusals, scanRefusals, chainRefusals, readNumber, answerWith, writesRows, clearsMarks, readExit, readOutcomeBy, outcomeOfRead}
+use Rattle.graph.specs.Write.{rowCount, malformed, writeRefusals, writeNumber, writeOutcomeBy, outcomeOfWrite}
 use Rattle.graph.specs.Steps.{Sized}
 use Rattle.graph.specs.Encode.{headOf, headsFrom, rowRecords, recordsFrom, fileWords, bytesOf, encode}
-use Rattle.graph.proofs.Bridge.{Fits, accepted, accepted-fits, accepted-offsets, accepted-targets, length-rows, offsets-count}
+use Rattle.graph.proofs.Bridge.{Fits, accept-rows, accepted-fits, accepted-offsets, accepted-targets, length-rows, offsets-count}
 use Rattle.graph.proofs.EncodeFacts.{length-bytes, word-bytes, length-row, length-heads, length-records}
 use Rattle.graph.proofs.FileLists.{heads-map, targets-map, nexts-map}
 use Rattle.graph.proofs.WellFormed.{sized-header, bounded-scan, partitioned-chains, taken-read, needs-met}
@@ -74,13 +74,13 @@ linked-rows file k (row ∷ g) h =
 
 -- What such records give: targets, chains and next indices.
 
-row-targets : (file : List ℕ) (k : ℕ) (row : List ℕ) → Linked file k row → map (target file) (range (suc k) (length row)) ≡ row
-unfolding range
+row-targets : (file : List ℕ) (k : ℕ) (row : List ℕ) → Linked file k row → map (target file) (numbersFrom (suc k) (length row)) ≡ row
+unfolding numbersFrom
 row-targets file k [] l = refl
 row-targets file k (t ∷ row) l = ap₂ (λ (x : ℕ) (xs : List ℕ). x ∷ xs) (l .0) (row-targets file (suc k) row (l .2))
 
-row-chain : (file : List ℕ) (k : ℕ) (row : List ℕ) (steps : ℕ) → Linked file k row → length row ≤ steps → chain file steps (headOf k row) ≡ range (suc k) (length row)
-unfolding range chain headOf
+row-chain : (file : List ℕ) (k : ℕ) (row : List ℕ) (steps : ℕ) → Linked file k row → length row ≤ steps → chain file steps (headOf k row) ≡ numbersFrom (suc k) (length row)
+unfolding numbersFrom chain headOf
 row-chain file k [] zero l h = refl
 row-chain file k [] (suc steps) l h = refl
 row-chain file k (t ∷ row) zero l h = absurd (not-suc-le-zero h)
@@ -92,57 +92,57 @@ unfolding headOf
 headOf-low k [] = omega arith
 headOf-low k (t ∷ row) = omega arith
 
-row-nexts : (file : List ℕ) (k m : ℕ) (row : List ℕ) → Linked file k row → k + length row ≤ m → reaches (suc m) (map (next file) (range (suc k) (length row))) ≡ false
-unfolding range reaches
+row-nexts : (file : List ℕ) (k m : ℕ) (row : List ℕ) → Linked file k row → k + length row ≤ m → reaches (suc m) (map (next file) (numbersFrom (suc k) (length row))) ≡ false
+unfolding numbersFrom reaches
 row-nexts file k m [] l h = refl
 row-nexts file k m (t ∷ row) l h =
-    none-or (leb (suc m) (next file (suc k))) (reaches (suc m) (map (next file) (range (suc (suc k)) (length row))))
+    none-or (leb (suc m) (next file (suc k))) (reaches (suc m) (map (next file) (numbersFrom (suc (suc k)) (length row))))
     (lt-leb (suc m) (next file (suc k)) (rw (l .1) (omega (arith, headOf-low (suc k) row))))
     (row-nexts file (suc k) m row (l .2) (omega arith))
 
-all-nexts : (file : List ℕ) (k m : ℕ) (g : Graph) → AllLinked file k g → k + length (concat g) ≤ m → reaches (suc m) (map (next file) (range (suc k) (length (concat g)))) ≡ false
-unfolding concat range reaches
+all-nexts : (file : List ℕ) (k m : ℕ) (g : Graph) → AllLinked file k g → k + length (flatten g) ≤ m → reaches (suc m) (map (next file) (numbersFrom (suc k) (length (flatten g)))) ≡ false
+unfolding flatten numbersFrom reaches
 all-nexts file k m [] l h = refl
 all-nexts file k m (row ∷ g) l h =
-    let n = length-append row (concat g) in
-    rw (n, ← range-append (suc k) (length row) (length (concat g)), map-append, reaches-append)
-    (none-or (reaches (suc m) (map (next file) (range (suc k) (length row)))) (reaches (suc m) (map (next file) (range (suc k + length row) (length (concat g)))))
+    let n = length-append row (flatten g) in
+    rw (n, ← range-append (suc k) (length row) (length (flatten g)), map-append, reaches-append)
+    (none-or (reaches (suc m) (map (next file) (numbersFrom (suc k) (length row)))) (reaches (suc m) (map (next file) (numbersFrom (suc k + length row) (length (flatten g)))))
     (row-nexts file k m row (l .0) (omega arith))
     (rw (suc-add k (length row)) (all-nexts file (k + length row) m g (l .1) (omega arith))))
 
-all-heads : (k m : ℕ) (g : Graph) → k + length (concat g) ≤ m → reaches (suc m) (headsFrom k g) ≡ false
-unfolding concat headsFrom reaches
+all-heads : (k m : ℕ) (g : Graph) → k + length (flatten g) ≤ m → reaches (suc m) (headsFrom k g) ≡ false
+unfolding flatten headsFrom reaches
 all-heads k m [] h = refl
 all-heads k m (row ∷ g) h =
-    let n = length-append row (concat g) in
+    let n = length-append row (flatten g) in
     none-or (leb (suc m) (headOf k row)) (reaches (suc m) (headsFrom (k + length row) g))
     (lt-leb (suc m) (headOf k row) (omega (arith, headOf-low k row)))
     (all-heads (k + length row) m g (omega arith))
 
-all-targets : (file : List ℕ) (k : ℕ) (g : Graph) → AllLinked file k g → map (target file) (range (suc k) (length (concat g))) ≡ concat g
-unfolding concat range
+all-targets : (file : List ℕ) (k : ℕ) (g : Graph) → AllLinked file k g → map (target file) (numbersFrom (suc k) (length (flatten g))) ≡ flatten g
+unfolding flatten numbersFrom
 all-targets file k [] l = refl
 all-targets file k (row ∷ g) l =
-    let n = length-append row (concat g) in
-    rw (n, ← range-append (suc k) (length row) (length (concat g)), map-append)
+    let n = length-append row (flatten g) in
+    rw (n, ← range-append (suc k) (length row) (length (flatten g)), map-append)
     (ap₂ (λ (a b : List ℕ). a ++ b) (row-targets file k row (l .0)) (rw (suc-add k (length row)) (all-targets file (k + length row) g (l .1))))
 
 -- the records of each row, the rows standing after k records
 recordsOf : ℕ → Graph → List (List ℕ)
 recordsOf k [] = []
-recordsOf k (row ∷ g) = range (suc k) (length row) ∷ recordsOf (k + length row) g
+recordsOf k (row ∷ g) = numbersFrom (suc k) (length row) ∷ recordsOf (k + length row) g
 
-concat-records : (k : ℕ) (g : Graph) → concat (recordsOf k g) ≡ range (suc k) (length (concat g))
-unfolding recordsOf concat range
-concat-records k [] = refl
-concat-records k (row ∷ g) =
-    rw (concat-records (k + length row) g, ← suc-add k (length row), range-append (suc k) (length row) (length (concat g)), length-append)
+flatten-records : (k : ℕ) (g : Graph) → flatten (recordsOf k g) ≡ numbersFrom (suc k) (length (flatten g))
+unfolding recordsOf flatten numbersFrom
+flatten-records k [] = refl
+flatten-records k (row ∷ g) =
+    rw (flatten-records (k + length row) g, ← suc-add k (length row), range-append (suc k) (length row) (length (flatten g)), length-append)
 
-all-chains : (file : List ℕ) (k steps : ℕ) (g : Graph) → AllLinked file k g → length (concat g) ≤ steps → map (chain file steps) (headsFrom k g) ≡ recordsOf k g
-unfolding recordsOf concat headsFrom
+all-chains : (file : List ℕ) (k steps : ℕ) (g : Graph) → AllLinked file k g → length (flatten g) ≤ steps → map (chain file steps) (headsFrom k g) ≡ recordsOf k g
+unfolding recordsOf flatten headsFrom
 all-chains file k steps [] l h = refl
 all-chains file k steps (row ∷ g) l h =
-    let n = length-append row (concat g) in
+    let n = length-append row (flatten g) in
     ap₂ (λ (r : List ℕ) (rs : List (List ℕ)). r ∷ rs) (row-chain file k row steps (l .0) (omega arith)) (all-chains file (k + length row) steps g (l .1) (omega arith))
 
 all-rows : (file : List ℕ) (k : ℕ) (g : Graph) → AllLinked file k g → map (λ (records : List ℕ). map (target file) records) (recordsOf k g) ≡ g
@@ -201,15 +201,15 @@ unfolding chains targetsOf
 encode-chains g =
     let file = encode g in
     let steps = suc (edgeCount file) in
-    let enough : length (concat g) ≤ suc (edgeCount file) = omega (arith, encode-edges g) in
-    sym (map-map (chain file steps) (head file) (range 0 (vertexCount file)))
+    let enough : length (flatten g) ≤ suc (edgeCount file) = omega (arith, encode-edges g) in
+    sym (map-map (chain file steps) (headIndex file) (numbersFrom 0 (vertexCount file)))
     ∙ ap (map (chain file steps)) (sym (heads-map file) ∙ encode-heads g)
     ∙ all-chains file 0 steps g (encode-linked g) enough
 
 -- the records are reached in order, each once
-pub encode-reached : (g : Graph) → reached (encode g) ≡ range 1 (length (targetsOf g))
+pub encode-reached : (g : Graph) → reached (encode g) ≡ numbersFrom 1 (length (targetsOf g))
 unfolding reached targetsOf
-encode-reached g = rw (encode-chains g) (concat-records 0 g)
+encode-reached g = rw (encode-chains g) (flatten-records 0 g)
 
 -- the graph of its encoding is the graph
 pub encode-graph : (g : Graph) → graphOf (encode g) ≡ g
@@ -226,21 +226,21 @@ row-small limit k (t ∷ row) e h =
     let low : leb limit (headOf (suc k) row) ≡ false = lt-leb limit (headOf (suc k) row) (omega (arith, headOf-low (suc k) row)) in
     rw (p .0, low) (row-small limit (suc k) row (p .1) (omega arith))
 
-rows-small : (limit k : ℕ) (g : Graph) → reaches limit (concat g) ≡ false → k + length (concat g) < limit → reaches limit (recordsFrom k g) ≡ false
-unfolding recordsFrom concat reaches
+rows-small : (limit k : ℕ) (g : Graph) → reaches limit (flatten g) ≡ false → k + length (flatten g) < limit → reaches limit (recordsFrom k g) ≡ false
+unfolding recordsFrom flatten reaches
 rows-small limit k [] e h = refl
 rows-small limit k (row ∷ g) e h =
-    let n = length-append row (concat g) in
-    let p = or-none (reaches limit row) (reaches limit (concat g)) (sym (reaches-append limit row (concat g)) ∙ e) in
+    let n = length-append row (flatten g) in
+    let p = or-none (reaches limit row) (reaches limit (flatten g)) (sym (reaches-append limit row (flatten g)) ∙ e) in
     rw (reaches-append limit (rowRecords k row) (recordsFrom (k + length row) g), row-small limit k row (p .0) (omega arith))
     (rows-small limit (k + length row) g (p .1) (omega arith))
 
 pub words-small : (g : Graph) → Fits g → reaches 65536 (fileWords g) ≡ false
 unfolding fileWords reaches targetsOf
 words-small g f =
-    let m = length (concat g) in
+    let m = length (flatten g) in
     let heads-under = reaches-weaken (suc m) 65536 (headsFrom 0 g) (omega arith) (all-heads 0 m g (omega arith)) in
-    let targets-under = reaches-weaken (length g) 65536 (concat g) (omega arith) (f .below) in
+    let targets-under = reaches-weaken (length g) 65536 (flatten g) (omega arith) (f .below) in
     rw (
       lt-leb 65536 (length g) (omega arith),
       lt-leb 65536 m (omega arith),
@@ -279,9 +279,9 @@ encode-indices : (g : Graph) → reaches (suc (edgeCount (encode g))) (heads (en
 unfolding targetsOf
 encode-indices g =
     rw (reaches-append, encode-heads g, nexts-map (encode g), encode-edges g)
-    (none-or (reaches (suc (length (concat g))) (headsFrom 0 g)) (reaches (suc (length (concat g))) (map (next (encode g)) (range 1 (length (concat g)))))
-    (all-heads 0 (length (concat g)) g (omega arith))
-    (all-nexts (encode g) 0 (length (concat g)) g (encode-linked g) (omega arith)))
+    (none-or (reaches (suc (length (flatten g))) (headsFrom 0 g)) (reaches (suc (length (flatten g))) (map (next (encode g)) (numbersFrom 1 (length (flatten g)))))
+    (all-heads 0 (length (flatten g)) g (omega arith))
+    (all-nexts (encode g) 0 (length (flatten g)) g (encode-linked g) (omega arith)))
 
 pub encode-scan : (g : Graph) → Fits g → first (scanRefusals (encode g)) ≡ 0
 encode-scan g f = bounded-scan (encode g) (record { indices = encode-indices g; targets = rw (encode-vertices g, encode-targets g) (f .below) })
@@ -291,7 +291,7 @@ encode-whole g =
     let m = length (targetsOf g) in
     partitioned-chains (encode g) (record {
       once = rw (encode-reached g) (repeats-range 1 m);
-      each = rw (encode-edges g, encode-reached g) (elem-lacks (range 1 m) (range 1 m) (λ x e. e));
+      each = rw (encode-edges g, encode-reached g) (elem-lacks (numbersFrom 1 m) (numbersFrom 1 m) (λ x e. e));
     })
 
 -- with lists long enough, it is read with number 0
@@ -306,10 +306,10 @@ encode-read g f offsets targets marks a b c = taken-read (encode g) offsets targ
 
 -- and gives the graph's rows
 pub encode-outcome : (g : Graph) → Fits g → (offsets targets marks : List ℕ) → length g < length offsets → length (targetsOf g) ≤ length targets → length (targetsOf g) ≤ length marks
-    → readOutcome (encode g) offsets targets marks
+    → outcomeOfRead (encode g) offsets targets marks
     ≡ readExit (record { number = 0; vertices = length g; edges = length (targetsOf g) })
     (overlay (offsetsOf g) offsets) (overlay (targetsOf g) targets) (overlay (replicate (length (targetsOf g)) 0) marks)
-unfolding readOutcome readOutcomeBy readAnswer writesRows clearsMarks elem
+unfolding outcomeOfRead readOutcomeBy answerWith writesRows clearsMarks elem
 encode-outcome g f offsets targets marks a b c = rw (encode-read g f offsets targets marks a b c, encode-vertices g, encode-edges g, encode-graph g)
 
 -- What `write` leaves is read back.
@@ -324,9 +324,9 @@ written-passed offsets targets bytes e =
     let q = first-passed long shortList [] (omega arith) (p .1) in
     (p .0, ltb-false (length bytes) (fileLength (rowCount offsets) (length targets)) (q .0))
 
-pub written-bytes : (offsets targets bytes : List ℕ) → (writeOutcome offsets targets bytes) .number ≡ 0
-    → take (fileLength (rowCount offsets) (length targets)) ((writeOutcome offsets targets bytes) .file) ≡ encode (rowsOf offsets targets)
-unfolding writeOutcome writeOutcomeBy overlay
+pub written-bytes : (offsets targets bytes : List ℕ) → (outcomeOfWrite offsets targets bytes) .number ≡ 0
+    → take (fileLength (rowCount offsets) (length targets)) ((outcomeOfWrite offsets targets bytes) .file) ≡ encode (rowsOf offsets targets)
+unfolding outcomeOfWrite writeOutcomeBy overlay
 written-bytes offsets targets bytes e =
     let g = rowsOf offsets targets in
     let ok = written-passed offsets targets bytes e .0 in
@@ -334,18 +334,18 @@ written-bytes offsets targets bytes e =
     let t = accepted-targets offsets targets ok in
     rw e (take-at (encode g) (drop (length (encode g)) bytes) (fileLength (rowCount offsets) (length targets)) (encode-length g ∙ rw (n, t)))
 
-pub written-read : (offsets targets bytes o t k : List ℕ) → (writeOutcome offsets targets bytes) .number ≡ 0
+pub written-read : (offsets targets bytes o t k : List ℕ) → (outcomeOfWrite offsets targets bytes) .number ≡ 0
     → length offsets ≤ length o → length targets ≤ length t → length targets ≤ length k
-    → readOutcome (take (fileLength (rowCount offsets) (length targets)) ((writeOutcome offsets targets bytes) .file)) o t k
+    → outcomeOfRead (take (fileLength (rowCount offsets) (length targets)) ((outcomeOfWrite offsets targets bytes) .file)) o t k
     ≡ readExit (record { number = 0; vertices = rowCount offsets; edges = length targets })
     (overlay offsets o) (overlay targets t) (overlay (replicate (length targets) 0) k)
-unfolding writeOutcome writeOutcomeBy
+unfolding outcomeOfWrite writeOutcomeBy
 written-read offsets targets bytes o t k e a b c =
     let g = rowsOf offsets targets in
     let ok = written-passed offsets targets bytes e .0 in
     let vertices = length-rows offsets targets in
     let same-offsets = accepted-offsets offsets targets ok in
     let same-targets = accepted-targets offsets targets ok in
-    let enough : rowCount offsets < length o = omega (arith, offsets-count offsets (accepted offsets targets ok .rows .some)) in
+    let enough : rowCount offsets < length o = omega (arith, offsets-count offsets (accept-rows offsets targets ok .rows .some)) in
     let outcome = encode-outcome g (accepted-fits offsets targets ok) o t k (rw vertices enough) (rw same-targets b) (rw same-targets c) in
     rw (written-bytes offsets targets bytes e) (rw (vertices, same-offsets, same-targets) at outcome)

@@ -8,7 +8,7 @@ use Rattle.numbers.specs.Numbers.{success, badTarget, badIndex}
 use Rattle.numbers.specs.Refusals.{first}
 use Rattle.lists.specs.Lists.{reaches}
 use Rattle.lists.proofs.Tests.{reaches-append}
-use Rattle.graph.specs.File.{wordsAt, head, next, heads, recordNexts, recordTargets}
+use Rattle.graph.specs.File.{wordsAt, headIndex, next, heads, recordNexts, recordTargets}
 use Rattle.graph.specs.Read.{scanRefusals}
 use Rattle.graph.specs.Steps.{Sized, Scanned}
 use Rattle.graph.proofs.WellFormed.{scanned-bounded, head-low, next-low}
@@ -38,7 +38,7 @@ module _ (file : List ℕ) {n m : ℕ} (s : Sized file n m) where
 
 -- What passing the scan says, with the n and m of the header.
 module _ (file : List ℕ) {n m : ℕ} (s : Scanned file n m) where
-  pub head-within : (u : ℕ) → u < n → head file u ≤ m
+  pub head-within : (u : ℕ) → u < n → headIndex file u ≤ m
   head-within u h = rw (s .sized .edges) (head-low file (scanned-bounded s) u (rw (s .sized .vertices) at h))
 
   pub next-within : (r : ℕ) → 1 ≤ r → r ≤ m → next file r ≤ m

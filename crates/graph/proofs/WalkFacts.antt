@@ -5,17 +5,17 @@ use mathlib.Core.List.{List, [], _∷_, map}
 use Prim.Native.Nat.{ℕ, zero, suc, _+_, _*_, _-_, _≤_, _<_}
 use native.Mathlib.Nat.{sub-zero}
 use native.Mathlib.Omega.{arith}
-use Rattle.lists.specs.Lists.{range}
-use Rattle.graph.specs.File.{word, vertexCount, edgeCount, head, target, next, chain, chains}
+use Rattle.lists.specs.Lists.{numbersFrom}
+use Rattle.graph.specs.File.{word, vertexCount, edgeCount, headIndex, target, next, chain, chains}
 use Rattle.graph.specs.Steps.{Sized}
 
 -- the chain of vertex u
 unfoldable pub chainOf : List ℕ → ℕ → List ℕ
-chainOf file u = chain file (suc (edgeCount file)) (head file u)
+chainOf file u = chain file (suc (edgeCount file)) (headIndex file u)
 
 -- the chains of the vertices from u on
 unfoldable pub chainsFrom : List ℕ → ℕ → List (List ℕ)
-chainsFrom file u = map (chainOf file) (range u (vertexCount file - u))
+chainsFrom file u = map (chainOf file) (numbersFrom u (vertexCount file - u))
 
 -- at vertex 0 they are all
 pub chains-all : (file : List ℕ) → chains file ≡ chainsFrom file 0
@@ -24,7 +24,7 @@ chains-all file = rw (sub-zero (vertexCount file))
 
 -- the next vertex's chain comes first
 pub chains-next : (file : List ℕ) (u : ℕ) → u < vertexCount file → chainsFrom file u ≡ chainOf file u ∷ chainsFrom file (suc u)
-unfolding chainsFrom range
+unfolding chainsFrom numbersFrom
 chains-next file u h = rw more
   where
     more : vertexCount file - u ≡ suc (vertexCount file - suc u)
@@ -32,7 +32,7 @@ chains-next file u h = rw more
 
 -- after the last vertex there is none
 pub chains-none : (file : List ℕ) (u : ℕ) → vertexCount file ≤ u → chainsFrom file u ≡ []
-unfolding chainsFrom range
+unfolding chainsFrom numbersFrom
 chains-none file u h = rw none
   where
     none : vertexCount file - u ≡ 0

@@ -2,7 +2,7 @@
 -- once, and that the rows which it gives are rows in order. The other way too where the tests can be met by these facts.
 use mathlib.Core.Path.{_≡_, refl, sym, ap, _∙_}
 use mathlib.Core.Bool.{false, not}
-use mathlib.Core.List.{List, [], _∷_, _++_, map}
+use mathlib.Core.List.{List, [], _∷_, _++_, map, flatten}
 use Prim.Native.Nat.{ℕ, zero, suc, _+_, _≤_, _<_}
 use native.Mathlib.Nat.{not-suc-le-zero, le-of-suc-le-suc}
 use native.Mathlib.Omega.{arith}
@@ -12,11 +12,11 @@ use borrow.Author.Tests.{eqb-true, not-false, le-ltb, eq-eqb}
 use Rattle.numbers.specs.Numbers.{badLength, badSize, badTarget, badIndex, repeated, unreached, shortList}
 use Rattle.numbers.specs.Refusals.{_gives_, first}
 use Rattle.numbers.proofs.First.{Positive, first-passed, first-skip, first-split, first-join}
-use Rattle.lists.specs.Lists.{range, concat, repeats, lacks, reaches}
+use Rattle.lists.specs.Lists.{numbersFrom, repeats, lacks, reaches}
 use Rattle.lists.proofs.Or.{or-none}
-use Rattle.lists.proofs.Tests.{reaches-append, range-elem, InRange, in-range-nil, in-range-cons, in-range-append, full-length, map-concat, map-reaches, reaches-map, row-short, map-at, length-range, getD-range}
+use Rattle.lists.proofs.Tests.{reaches-append, range-elem, InRange, in-range-nil, in-range-cons, in-range-append, full-length, map-flatten, map-reaches, reaches-map, row-short, map-at, length-range, getD-range}
 use Rattle.graph.specs.Graph.{offsetsOf, targetsOf}
-use Rattle.graph.specs.File.{vertexCount, edgeCount, fileLength, head, target, next, heads, recordTargets, recordNexts, chain, chains, reached, graphOf}
+use Rattle.graph.specs.File.{vertexCount, edgeCount, fileLength, headIndex, target, next, heads, recordTargets, recordNexts, chain, chains, reached, graphOf}
 use Rattle.graph.specs.Read.{outsideSizes, headerRefusals, scanRefusals, chainRefusals, rowsShort, readRefusals, readNumber}
 use Rattle.graph.specs.Write.{malformed}
 use Rattle.graph.specs.Steps.{Sized, Scanned, Chained}
@@ -83,21 +83,21 @@ indices-low file b =
     or-none (reaches (suc m) (heads file)) (reaches (suc m) (recordNexts file)) (sym (reaches-append (suc m) (heads file) (recordNexts file)) ∙ b .indices)
 
 -- so each head is a record or 0
-pub head-low : (file : List ℕ) → Bounded file → (u : ℕ) → u < vertexCount file → head file u ≤ edgeCount file
+pub head-low : (file : List ℕ) → Bounded file → (u : ℕ) → u < vertexCount file → headIndex file u ≤ edgeCount file
 head-low file b u h =
-    le-of-suc-le-suc (map-reaches (suc (edgeCount file)) (head file) (range 0 (vertexCount file)) (rw (heads-map file) at (indices-low file b .0)) u
+    le-of-suc-le-suc (map-reaches (suc (edgeCount file)) (headIndex file) (numbersFrom 0 (vertexCount file)) (rw (heads-map file) at (indices-low file b .0)) u
     (range-elem u 0 (vertexCount file) (omega arith) (omega arith)))
 
 -- so is each next index
 pub next-low : (file : List ℕ) → Bounded file → (r : ℕ) → 1 ≤ r → r ≤ edgeCount file → next file r ≤ edgeCount file
 next-low file b r h k =
-    le-of-suc-le-suc (map-reaches (suc (edgeCount file)) (next file) (range 1 (edgeCount file)) (rw (nexts-map file) at (indices-low file b .1)) r
+    le-of-suc-le-suc (map-reaches (suc (edgeCount file)) (next file) (numbersFrom 1 (edgeCount file)) (rw (nexts-map file) at (indices-low file b .1)) r
     (range-elem r 1 (edgeCount file) h (omega arith)))
 
 -- and each target is a vertex
 pub target-low : (file : List ℕ) → Bounded file → (r : ℕ) → 1 ≤ r → r ≤ edgeCount file → target file r < vertexCount file
 target-low file b r h k =
-    map-reaches (vertexCount file) (target file) (range 1 (edgeCount file)) (rw (targets-map file) at (b .targets)) r
+    map-reaches (vertexCount file) (target file) (numbersFrom 1 (edgeCount file)) (rw (targets-map file) at (b .targets)) r
     (range-elem r 1 (edgeCount file) h (omega arith))
 
 -- The chains.
@@ -105,25 +105,18 @@ target-low file b r h k =
 -- no record is reached twice and none is missed
 pub record Partitioned (file : List ℕ) : Type 0 where
   pub once : repeats (reached file) ≡ false
-  pub each : lacks (range 1 (edgeCount file)) (reached file) ≡ false
+  pub each : lacks (numbersFrom 1 (edgeCount file)) (reached file) ≡ false
 
 pub chains-partitioned : (file : List ℕ) → first (chainRefusals file) ≡ 0 → Partitioned file
 unfolding chainRefusals
 chains-partitioned file e =
-    let missed = lacks (range 1 (edgeCount file)) (reached file) in
+    let missed = lacks (numbersFrom 1 (edgeCount file)) (reached file) in
     let p = first-passed (repeats (reached file)) repeated (missed gives unreached ∷ []) (omega arith) e in
     record { once = p .0; each = first-passed missed unreached [] (omega arith) (p .1) .0 }
 
 pub partitioned-chains : (file : List ℕ) → Partitioned file → first (chainRefusals file) ≡ 0
 unfolding chainRefusals first
 partitioned-chains file p = rw (p .once, p .each)
-
--- a chain has at most as many records as steps
-pub chain-length : (file : List ℕ) (steps r : ℕ) → length (chain file steps r) ≤ steps
-unfolding chain
-chain-length file zero r = omega arith
-chain-length file (suc steps) zero = omega arith
-chain-length file (suc steps) (suc r) = omega (arith, chain-length file steps (next file (suc r)))
 
 -- a chain that ends before its steps do has no more records with more steps
 pub chain-more : (file : List ℕ) (steps more r : ℕ) → length (chain file steps r) < steps → steps ≤ more → chain file more r ≡ chain file steps r
@@ -144,13 +137,13 @@ chain-in-range file b (suc steps) (suc r) h =
     (chain-in-range file b steps (next file (suc r)) (next-low file b (suc r) (omega arith) h))
 
 chains-in-range : (file : List ℕ) → Bounded file → (a count : ℕ) → a + count ≤ vertexCount file
-    → InRange (edgeCount file) (concat (map (λ (u : ℕ). chain file (suc (edgeCount file)) (head file u)) (range a count)))
-unfolding concat range
+    → InRange (edgeCount file) (flatten (map (λ (u : ℕ). chain file (suc (edgeCount file)) (headIndex file u)) (numbersFrom a count)))
+unfolding flatten numbersFrom
 chains-in-range file b a zero h = in-range-nil (edgeCount file)
 chains-in-range file b a (suc count) h =
-    in-range-append (edgeCount file) (chain file (suc (edgeCount file)) (head file a))
-    (concat (map (λ (u : ℕ). chain file (suc (edgeCount file)) (head file u)) (range (suc a) count)))
-    (chain-in-range file b (suc (edgeCount file)) (head file a) (head-low file b a (omega arith)))
+    in-range-append (edgeCount file) (chain file (suc (edgeCount file)) (headIndex file a))
+    (flatten (map (λ (u : ℕ). chain file (suc (edgeCount file)) (headIndex file u)) (numbersFrom (suc a) count)))
+    (chain-in-range file b (suc (edgeCount file)) (headIndex file a) (head-low file b a (omega arith)))
     (chains-in-range file b (suc a) count (omega arith))
 
 pub reached-in-range : (file : List ℕ) → Bounded file → InRange (edgeCount file) (reached file)
@@ -167,14 +160,14 @@ unfolding reached
 chain-short file b p u = omega (arith, row-short (chains file) u, reached-length file b p)
 
 -- the chain of a vertex, by its place in the chains
-pub chain-at : (file : List ℕ) (u : ℕ) → u < vertexCount file → getD (chains file) u [] ≡ chain file (suc (edgeCount file)) (head file u)
+pub chain-at : (file : List ℕ) (u : ℕ) → u < vertexCount file → getD (chains file) u [] ≡ chain file (suc (edgeCount file)) (headIndex file u)
 unfolding chains
 chain-at file u h =
-    map-at (λ (v : ℕ). chain file (suc (edgeCount file)) (head file v)) (range 0 (vertexCount file)) u (rw (length-range 0 (vertexCount file)) h)
-    ∙ ap (λ (v : ℕ). chain file (suc (edgeCount file)) (head file v)) (getD-range 0 (vertexCount file) u 0 h ∙ omega arith)
+    map-at (λ (v : ℕ). chain file (suc (edgeCount file)) (headIndex file v)) (numbersFrom 0 (vertexCount file)) u (rw (length-range 0 (vertexCount file)) h)
+    ∙ ap (λ (v : ℕ). chain file (suc (edgeCount file)) (headIndex file v)) (getD-range 0 (vertexCount file) u 0 h ∙ omega arith)
 
 pub chain-ends : (file : List ℕ) → Bounded file → Partitioned file → (u : ℕ) → u < vertexCount file
-    → length (chain file (suc (edgeCount file)) (head file u)) ≤ edgeCount file
+    → length (chain file (suc (edgeCount file)) (headIndex file u)) ≤ edgeCount file
 chain-ends file b p u h = rw (chain-at file u h) at (chain-short file b p u)
 
 -- The same from the steps of reading.
@@ -190,7 +183,7 @@ chained-partitioned {file} c = chains-partitioned file (c .whole)
 -- the targets, in the order in which their records are reached
 pub graph-targets : (file : List ℕ) → targetsOf (graphOf file) ≡ map (target file) (reached file)
 unfolding targetsOf graphOf reached
-graph-targets file = map-concat (target file) (chains file)
+graph-targets file = map-flatten (target file) (chains file)
 
 -- m of them
 pub graph-edges : (file : List ℕ) → Bounded file → Partitioned file → length (targetsOf (graphOf file)) ≡ edgeCount file
@@ -213,10 +206,6 @@ module _ (file : List ℕ) (s : first (headerRefusals file) ≡ 0) (t : first (s
       let m = graph-edges file b (chains-partitioned file w) in
       record { some = rw n (z .some); fewVertices = rw n (z .fewVertices); fewEdges = rw m (z .fewEdges); below = rw n (graph-below file b) }
 
-  -- so the writer accepts what was read
-  pub taken-accepted : malformed (offsetsOf (graphOf file)) (targetsOf (graphOf file)) ≡ false
-  taken-accepted = fits-accepted (graphOf file) taken-fits
-
 -- lists long enough for what is read
 pub needs-met : (file offsets targets marks : List ℕ) → vertexCount file < length offsets → edgeCount file ≤ length targets → edgeCount file ≤ length marks
     → rowsShort (vertexCount file) (edgeCount file) (length offsets) (length targets) (length marks) ≡ false
@@ -234,11 +223,11 @@ pub record Taken (file offsets targets marks : List ℕ) : Type 0 where
   pub needs : rowsShort (vertexCount file) (edgeCount file) (length offsets) (length targets) (length marks) ≡ false
   pub whole : first (chainRefusals file) ≡ 0
 
-positive-header : (file : List ℕ) → Positive (headerRefusals file)
+pub positive-header : (file : List ℕ) → Positive (headerRefusals file)
 unfolding headerRefusals
 positive-header file = omega arith
 
-positive-scan : (file : List ℕ) → Positive (scanRefusals file)
+pub positive-scan : (file : List ℕ) → Positive (scanRefusals file)
 unfolding scanRefusals
 positive-scan file = omega arith
 

@@ -7,17 +7,17 @@ use native.Mathlib.Nat.{not-suc-le-zero}
 use native.Mathlib.Numerals.{sub-one}
 use native.Mathlib.Omega.{arith}
 use lib.ListN.{length, getD}
-use Rattle.lists.proofs.Rows.{Rising, rising}
+use Rattle.lists.proofs.Rows.{Rising, rise-of}
 use Rattle.lists.proofs.Tests.{falls-none}
 use Rattle.graph.specs.Write.{malformed, rowCount}
 use Rattle.graph.specs.WriteSteps.{WellFormed}
-use Rattle.graph.proofs.Bridge.{Accepted, accepted}
+use Rattle.graph.proofs.Bridge.{Accepted, accept-rows}
 use Rattle.graph.proofs.Encoding.{Written, written-rising}
 
 -- what the steps of writing take for granted
 pub well-formed : (offsets targets : List ℕ) → malformed offsets targets ≡ false → WellFormed offsets targets (length offsets - 1)
 well-formed offsets targets h =
-    let is : Accepted offsets targets = accepted offsets targets h in
+    let is : Accepted offsets targets = accept-rows offsets targets h in
     let one : length offsets - 1 ≡ rowCount offsets = sub-one (length offsets) in
     record {
       vertices = omega (arith, is .rows .some);
@@ -33,7 +33,7 @@ written-cons a offsets targets is =
     (λ (x : ℕ). Rising (length targets) x offsets → getD (x ∷ offsets) (length offsets) 0 ≡ length targets → Written (x ∷ offsets) targets (length offsets))
     (sym (is .rows .start))
     (written-rising targets offsets)
-    (rising (length targets) a offsets (falls-none 0 a offsets (is .rows .rise) .1) (is .rows .stop))
+    (rise-of (length targets) a offsets (falls-none 0 a offsets (is .rows .rise) .1) (is .rows .stop))
     (is .rows .stop)
 
 written-accepted : (offsets targets : List ℕ) (n : ℕ) → length offsets ≡ n + 1 → Accepted offsets targets → Written offsets targets n
@@ -41,5 +41,5 @@ written-accepted [] targets n h is = absurd (not-suc-le-zero (is .rows .some))
 written-accepted (a ∷ offsets) targets n h is = subst (λ (x : ℕ). Written (a ∷ offsets) targets x) (omega arith) (written-cons a offsets targets is)
 
 -- the offsets and the file of well-formed rows
-pub written : {offsets targets : List ℕ} {n : ℕ} → WellFormed offsets targets n → Written offsets targets n
-written {offsets} {targets} {n} rows = written-accepted offsets targets n (rows .vertices) (accepted offsets targets (rows .clean))
+pub written-rows : {offsets targets : List ℕ} {n : ℕ} → WellFormed offsets targets n → Written offsets targets n
+written-rows {offsets} {targets} {n} rows = written-accepted offsets targets n (rows .vertices) (accept-rows offsets targets (rows .clean))

@@ -1,9 +1,9 @@
 -- The adjacency file (document 01: hearing file): its words, its records and chains, and the graph that they hold. Total: every list
 -- of bytes has a meaning here, and the refusals of Read.antt say which are accepted.
 use Prim.Native.Nat.{ℕ, zero, suc, _+_, _*_}
-use mathlib.Core.List.{List, [], _∷_, map}
+use mathlib.Core.List.{List, [], _∷_, map, flatten}
 use lib.ListN.{getD}
-use Rattle.lists.specs.Lists.{concat, range}
+use Rattle.lists.specs.Lists.{numbersFrom}
 use Rattle.graph.specs.Graph.{Graph}
 
 -- "16-bit words, low byte first": the word at place i
@@ -28,8 +28,8 @@ abbrev pub fileLength : ℕ → ℕ → ℕ
 fileLength n m = 2 * (2 + n + 2 * m)
 
 -- "then n heads": the head of vertex u
-unfoldable pub head : List ℕ → ℕ → ℕ
-head file u = word file (2 + u)
+unfoldable pub headIndex : List ℕ → ℕ → ℕ
+headIndex file u = word file (2 + u)
 
 -- "then m records of two words: target, next. Records are numbered from 1": the target of record r
 unfoldable pub target : List ℕ → ℕ → ℕ
@@ -59,11 +59,11 @@ chain file (suc steps) (suc r) = suc r ∷ chain file steps (next file (suc r))
 
 -- the chain of each vertex. m + 1 steps are enough: a chain of more than m records meets one of them twice
 unfoldable pub chains : List ℕ → List (List ℕ)
-chains file = map (λ (u : ℕ). chain file (suc (edgeCount file)) (head file u)) (range 0 (vertexCount file))
+chains file = map (λ (u : ℕ). chain file (suc (edgeCount file)) (headIndex file u)) (numbersFrom 0 (vertexCount file))
 
 -- the records reached from the heads, vertex by vertex, in chain order
 unfoldable pub reached : List ℕ → List ℕ
-reached file = concat (chains file)
+reached file = flatten (chains file)
 
 -- the graph of the file: "device by device, each in chain order"
 unfoldable pub graphOf : List ℕ → Graph

@@ -1,9 +1,9 @@
 -- The graph of the theory: a row for each vertex (document 01: device), with the targets of its edges (links) in order.
 -- Offsets and targets are the same rows laid end to end (compressed sparse rows).
 use Prim.Native.Nat.{ℕ, _-_}
-use mathlib.Core.List.{List, [], _∷_, map}
+use mathlib.Core.List.{List, [], _∷_, map, flatten}
 use lib.ListN.{length, getD, take, drop}
-use Rattle.lists.specs.Lists.{sumsFrom, concat}
+use Rattle.lists.specs.Lists.{sumsFrom}
 
 -- a row of targets for each vertex
 abbrev pub Graph : Type 0
@@ -19,7 +19,7 @@ offsetsOf g = sumsFrom 0 (map length g)
 
 -- "targets (m places), device by device"
 unfoldable pub targetsOf : Graph → List ℕ
-targetsOf g = concat g
+targetsOf g = flatten g
 
 -- the rows that offsets and targets stand for: row u is the part of the targets from its offset up to the next one
 unfoldable pub rowsOf : List ℕ → List ℕ → Graph

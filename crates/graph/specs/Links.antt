@@ -3,11 +3,13 @@ use Prim.Native.Nat.{ℕ, _+_, _-_}
 use mathlib.Core.Bool.{Bool, cond, not, _||_}
 use mathlib.Core.List.{List, [], _∷_}
 use lib.Dec.{ltb}
-use lib.ListN.{length, getD, take, drop}
+use lib.ListN.{length, getD}
 use Rattle.numbers.specs.Numbers.{badRows}
 use Rattle.numbers.specs.Refusals.{_gives_, first}
+use Rattle.graph.specs.Graph.{edges, rowsOf}
 
--- 11 of the view: "fewer than 2 offsets, device not under offsets length less one, or its two offsets fall or pass the end of targets"
+-- 11 of the view: "fewer than 2 offsets, device not under offsets length less one, or its two offsets fall or pass the end of targets".
+-- Where they do not fall, the second one passes the end if the first does.
 unfoldable pub outOfView : List ℕ → List ℕ → ℕ → Bool
 outOfView offsets targets u =
     ltb (length offsets) 2
@@ -21,5 +23,4 @@ linksNumber offsets targets u = first (outOfView offsets targets u gives badRows
 
 -- "the part of the targets list itself that belongs to the device, or an empty part where number 11 holds"
 unfoldable pub linksOf : List ℕ → List ℕ → ℕ → List ℕ
-linksOf offsets targets u =
-    cond (outOfView offsets targets u) [] (take (getD offsets (u + 1) 0 - getD offsets u 0) (drop (getD offsets u 0) targets))
+linksOf offsets targets u = cond (outOfView offsets targets u) [] (edges (rowsOf offsets targets) u)

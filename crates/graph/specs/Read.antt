@@ -6,7 +6,7 @@ use lib.Dec.{ltb, eqb}
 use lib.ListN.{length, replicate}
 use Rattle.numbers.specs.Numbers.{maxVertices, maxEdges, success, badLength, badSize, badTarget, badIndex, repeated, unreached, shortList}
 use Rattle.numbers.specs.Refusals.{Refusal, _gives_, first}
-use Rattle.lists.specs.Lists.{overlay, range, elem, repeats, lacks, reaches}
+use Rattle.lists.specs.Lists.{overlay, numbersFrom, elem, repeats, lacks, reaches}
 use Rattle.graph.specs.Graph.{offsetsOf, targetsOf}
 use Rattle.graph.specs.File.{vertexCount, edgeCount, fileLength, heads, recordTargets, recordNexts, reached, graphOf}
 use Rattle.graph.specs.declared.ReadAnswer.{ReadAnswer}
@@ -34,7 +34,7 @@ scanRefusals file =
 unfoldable pub chainRefusals : List ℕ → List Refusal
 chainRefusals file =
     repeats (reached file) gives repeated
-    ∷ lacks (range 1 (edgeCount file)) (reached file) gives unreached
+    ∷ lacks (numbersFrom 1 (edgeCount file)) (reached file) gives unreached
     ∷ []
 
 -- "20: a lent list is shorter than its need", "offsets n + 1, targets and marks m", by the lists' lengths
@@ -54,12 +54,12 @@ unfoldable pub readNumber : List ℕ → List ℕ → List ℕ → List ℕ → 
 readNumber file offsets targets marks = first (readRefusals file offsets targets marks)
 
 -- "A refusal other than 21 gives zeros beside its number."
-abbrev pub refusal : ℕ → ReadAnswer
-refusal number = record { number = number; vertices = 0; edges = 0 }
+abbrev pub refusalAnswer : ℕ → ReadAnswer
+refusalAnswer number = record { number = number; vertices = 0; edges = 0 }
 
 -- the answer with this number: n and m beside 0
-unfoldable pub readAnswer : ℕ → ℕ → ℕ → ReadAnswer
-readAnswer number n m = cond (eqb number success) (record { number = number; vertices = n; edges = m }) (refusal number)
+unfoldable pub answerWith : ℕ → ℕ → ℕ → ReadAnswer
+answerWith number n m = cond (eqb number success) (record { number = number; vertices = n; edges = m }) (refusalAnswer number)
 
 -- whether rows are written with this number
 unfoldable pub writesRows : ℕ → Bool
@@ -83,12 +83,12 @@ readExit answer offsets targets marks = record { answer = answer; offsets = offs
 -- the outcome with this number
 unfoldable pub readOutcomeBy : ℕ → List ℕ → List ℕ → List ℕ → List ℕ → ReadOutcome
 readOutcomeBy number file offsets targets marks = record {
-  answer = readAnswer number (vertexCount file) (edgeCount file);
+  answer = answerWith number (vertexCount file) (edgeCount file);
   offsets = cond (writesRows number) (overlay (offsetsOf (graphOf file)) offsets) offsets;
   targets = cond (writesRows number) (overlay (targetsOf (graphOf file)) targets) targets;
   marks = cond (clearsMarks number) (overlay (replicate (edgeCount file) 0) marks) marks;
 }
 
 -- the outcome of `read`
-unfoldable pub readOutcome : List ℕ → List ℕ → List ℕ → List ℕ → ReadOutcome
-readOutcome file offsets targets marks = readOutcomeBy (readNumber file offsets targets marks) file offsets targets marks
+unfoldable pub outcomeOfRead : List ℕ → List ℕ → List ℕ → List ℕ → ReadOutcome
+outcomeOfRead file offsets targets marks = readOutcomeBy (readNumber file offsets targets marks) file offsets targets marks

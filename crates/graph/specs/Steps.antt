@@ -9,12 +9,12 @@ use Rattle.numbers.specs.Refusals.{first}
 use Rattle.lists.specs.Lists.{overlay}
 use Rattle.graph.specs.Graph.{offsetsOf, targetsOf}
 use Rattle.graph.specs.File.{vertexCount, edgeCount, fileLength, graphOf}
-use Rattle.graph.specs.Read.{headerRefusals, scanRefusals, chainRefusals, readAnswer, writesRows}
+use Rattle.graph.specs.Read.{headerRefusals, scanRefusals, chainRefusals, answerWith, writesRows}
 use Rattle.graph.specs.declared.ReadAnswer.{ReadAnswer}
 
 -- what `header` answers: 1 (under 4), 2, 1 (length), or n and m
 unfoldable pub headerAnswer : List ℕ → ReadAnswer
-headerAnswer file = readAnswer (first (headerRefusals file)) (vertexCount file) (edgeCount file)
+headerAnswer file = answerWith (first (headerRefusals file)) (vertexCount file) (edgeCount file)
 
 -- n and m are the file's, within their sizes, and the length is theirs
 pub record Sized (file : List ℕ) (n m : ℕ) : Type 0 where

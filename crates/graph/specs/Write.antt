@@ -55,5 +55,5 @@ writeOutcomeBy number offsets targets file = record {
 }
 
 -- the outcome of `write`
-unfoldable pub writeOutcome : List ℕ → List ℕ → List ℕ → WriteOutcome
-writeOutcome offsets targets file = writeOutcomeBy (writeNumber offsets targets file) offsets targets file
+unfoldable pub outcomeOfWrite : List ℕ → List ℕ → List ℕ → WriteOutcome
+outcomeOfWrite offsets targets file = writeOutcomeBy (writeNumber offsets targets file) offsets targets file

@@ -1,6 +1,6 @@
 // The reader: from the bytes of a file to its rows.
 ghost use mathlib.Core.Path.{_≡_};
-ghost use Rattle.graph.specs.Read.{readOutcome, readExit};
+ghost use Rattle.graph.specs.Read.{outcomeOfRead, readExit};
 use crate::ReadAnswer;
 use crate::steps::header;
 use crate::steps::refused;
@@ -10,7 +10,7 @@ use crate::steps::unchain;
 
 // Reads the file into rows: offsets and targets. Marks is working room.
 pub fn read(file: &[u8], offsets: &mut [u16], targets: &mut [u16], marks: &mut [u16]) -> ReadAnswer
-    ensures { λ r. ⌜ readExit r (now (offsets .exit)) (now (targets .exit)) (now (marks .exit)) ≡ readOutcome (now (file .entry)) (now (offsets .entry)) (now (targets .entry)) (now (marks .entry)) ⌝ }
+    ensures { λ r. ⌜ readExit r (now (offsets .exit)) (now (targets .exit)) (now (marks .exit)) ≡ outcomeOfRead (now (file .entry)) (now (offsets .entry)) (now (targets .entry)) (now (marks .entry)) ⌝ }
 {
     let answer = header(file);
     let n = answer.vertices;

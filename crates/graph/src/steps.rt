@@ -7,7 +7,7 @@ ghost use Rattle.numbers.specs.Refusals.{first};
 ghost use Rattle.lists.specs.Lists.{overlay};
 ghost use Rattle.graph.specs.Graph.{offsetsOf, targetsOf};
 ghost use Rattle.graph.specs.File.{graphOf};
-ghost use Rattle.graph.specs.Read.{refusal, outsideSizes, scanRefusals, chainRefusals, rowsShort};
+ghost use Rattle.graph.specs.Read.{refusalAnswer, outsideSizes, scanRefusals, chainRefusals, rowsShort};
 ghost use Rattle.graph.specs.Steps.{headerAnswer, Sized, Scanned, Chained, Unchained};
 use crate::ReadAnswer;
 use crate::words::any_reaches;
@@ -15,7 +15,7 @@ use crate::words::word;
 
 // Zeros beside a refusal's number.
 pub fn refused(number: usize) -> ReadAnswer
-    ensures { λ r. ⌜ r ≡ refusal number ⌝ }
+    ensures { λ r. ⌜ r ≡ refusalAnswer number ⌝ }
 {
     ReadAnswer {
         number,
@@ -110,7 +110,7 @@ pub fn unchain(
     requires { ⌜ m ≤ length (now marks) ⌝ }
     ensures { λ r. ⌜ Unchained (now (file .entry)) m r (now (offsets .entry)) (now (targets .entry)) (now (marks .entry)) (now (offsets .exit)) (now (targets .exit)) (now (marks .exit)) ⌝ }
 {
-    let number = survey(file, n, m, marks);
+    let number = check_chains(file, n, m, marks);
     if number != numbers::SUCCESS {
         return number;
     }
@@ -119,7 +119,7 @@ pub fn unchain(
 }
 
 // 5, 6, with marks clear before and after: what they hold at entry does not matter.
-fn survey(file: &[u8], n: usize, m: usize, marks: &mut [u16]) -> usize
+fn check_chains(file: &[u8], n: usize, m: usize, marks: &mut [u16]) -> usize
     requires { ⌜ Scanned (now file) n m ⌝ }
     requires { ⌜ m ≤ length (now marks) ⌝ }
     ensures { λ r. ⌜ r ≡ first (chainRefusals (now (file .entry))) ⌝ }

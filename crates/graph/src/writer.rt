@@ -7,7 +7,7 @@ ghost use Rattle.lists.specs.Lists.{overlay, reaches, fallsFrom};
 ghost use Rattle.graph.specs.Graph.{rowsOf};
 ghost use Rattle.graph.specs.File.{fileLength};
 ghost use Rattle.graph.specs.Encode.{encode};
-ghost use Rattle.graph.specs.Write.{writeExit, writeOutcome};
+ghost use Rattle.graph.specs.Write.{writeExit, outcomeOfWrite};
 ghost use Rattle.graph.specs.Write.{malformed as Write·malformed};
 ghost use Rattle.graph.specs.WriteSteps.{WellFormed, indexAfter};
 use crate::steps::outside_sizes;
@@ -16,7 +16,7 @@ use crate::words::put;
 
 // 11, then 20; otherwise the bytes of the file, and 0.
 pub fn write(offsets: &[u16], targets: &[u16], file: &mut [u8]) -> usize
-    ensures { λ r. ⌜ writeExit r (now (file .exit)) ≡ writeOutcome (now (offsets .entry)) (now (targets .entry)) (now (file .entry)) ⌝ }
+    ensures { λ r. ⌜ writeExit r (now (file .exit)) ≡ outcomeOfWrite (now (offsets .entry)) (now (targets .entry)) (now (file .entry)) ⌝ }
 {
     if malformed(offsets, targets) {
         return numbers::BAD_ROWS;

@@ -20,10 +20,10 @@ pub data Rising (m : ℕ) : ℕ → List ℕ → Type 0 where
   rises : {a b : ℕ} {xs : List ℕ} → a ≤ b → Rising m b xs → Rising m a (b ∷ xs)
 
 -- a list rises where the test for a fall is false
-pub rising : (m a : ℕ) (xs : List ℕ) → fallsFrom a xs ≡ false → getD (a ∷ xs) (length xs) 0 ≡ m → Rising m a xs
+pub rise-of : (m a : ℕ) (xs : List ℕ) → fallsFrom a xs ≡ false → getD (a ∷ xs) (length xs) 0 ≡ m → Rising m a xs
 unfolding fallsFrom
-rising m a [] h e = ends e
-rising m a (b ∷ xs) h e = let p = or-none (ltb b a) (fallsFrom b xs) h in rises (ltb-false b a (p .0)) (rising m b xs (p .1) e)
+rise-of m a [] h e = ends e
+rise-of m a (b ∷ xs) h e = let p = or-none (ltb b a) (fallsFrom b xs) h in rises (ltb-false b a (p .0)) (rise-of m b xs (p .1) e)
 
 -- no number of it is above m
 pub rising-below : {m a : ℕ} {xs : List ℕ} → Rising m a xs → (i : ℕ) → getD (a ∷ xs) i 0 ≤ m

@@ -2,7 +2,7 @@
 -- end to end, and the pigeonhole, which counts distinct numbers by the places that they have.
 use mathlib.Core.Path.{_≡_, refl, sym, ap, _∙_}
 use mathlib.Core.Bool.{Bool, true, false, cond, not, _||_, or-assoc, true≢false}
-use mathlib.Core.List.{List, [], _∷_, _++_, map, map-append}
+use mathlib.Core.List.{List, [], _∷_, _++_, map, map-append, flatten}
 use Prim.Native.Nat.{ℕ, zero, suc, _+_, _≤_, _<_}
 use mathlib.Core.Logic.{_≢_}
 use native.Mathlib.Nat.{le-of-suc-le-suc, not-suc-le-zero, not-le-of-lt, zero-add, add-zero, suc-add, add-suc}
@@ -10,7 +10,7 @@ use native.Mathlib.Omega.{arith}
 use lib.Dec.{leb, ltb, eqb}
 use lib.ListN.{length, getD, length-append}
 use borrow.Author.Tests.{ltb-false, leb-false, eqb-true, eqb-false, not-false, le-ltb, lt-leb, eq-eqb, ne-eqb}
-use Rattle.lists.specs.Lists.{range, sumsFrom, concat, elem, repeats, lacks, reaches, fallsFrom}
+use Rattle.lists.specs.Lists.{numbersFrom, sumsFrom, elem, repeats, lacks, reaches, fallsFrom}
 use Rattle.lists.proofs.Or.{or-none, none-or, or-second, not-so}
 
 -- A test of lists laid end to end.
@@ -144,48 +144,48 @@ distinct-within (x ∷ a) b e h =
 
 -- Ranges.
 
-pub length-range : (a n : ℕ) → length (range a n) ≡ n
-unfolding range
+pub length-range : (a n : ℕ) → length (numbersFrom a n) ≡ n
+unfolding numbersFrom
 length-range a zero = refl
 length-range a (suc n) = ap suc (length-range (suc a) n)
 
 -- the number at a place
-pub getD-range : (a n i d : ℕ) → i < n → getD (range a n) i d ≡ a + i
-unfolding range
+pub getD-range : (a n i d : ℕ) → i < n → getD (numbersFrom a n) i d ≡ a + i
+unfolding numbersFrom
 getD-range a zero i d h = absurd (not-suc-le-zero h)
 getD-range a (suc n) zero d h = omega arith
 getD-range a (suc n) (suc i) d h = getD-range (suc a) n i d (le-of-suc-le-suc h) ∙ omega arith
 
 -- a range in two parts
-pub range-append : (a n m : ℕ) → range a n ++ range (a + n) m ≡ range a (n + m)
-unfolding range
+pub range-append : (a n m : ℕ) → numbersFrom a n ++ numbersFrom (a + n) m ≡ numbersFrom a (n + m)
+unfolding numbersFrom
 range-append a zero m = rw (add-zero, zero-add)
 range-append a (suc n) m = rw (suc-add, add-suc, ← suc-add a n, range-append (suc a) n m)
 
 -- what is in a range
-pub elem-range : (x a n : ℕ) → elem x (range a n) ≡ true → (a ≤ x) × (x < a + n)
-unfolding range elem
+pub elem-range : (x a n : ℕ) → elem x (numbersFrom a n) ≡ true → (a ≤ x) × (x < a + n)
+unfolding numbersFrom elem
 elem-range x a zero e = absurd (true≢false (sym e))
-elem-range x a (suc n) e = elem-cases x a (range (suc a) n) e
+elem-range x a (suc n) e = elem-cases x a (numbersFrom (suc a) n) e
     (λ (q : x ≡ a). omega arith)
-    (λ (f : elem x (range (suc a) n) ≡ true). let h = elem-range x (suc a) n f in omega arith)
+    (λ (f : elem x (numbersFrom (suc a) n) ≡ true). let h = elem-range x (suc a) n f in omega arith)
 
 -- and what is between its ends is in it
-pub range-elem : (x a n : ℕ) → a ≤ x → x < a + n → elem x (range a n) ≡ true
-unfolding range elem
+pub range-elem : (x a n : ℕ) → a ≤ x → x < a + n → elem x (numbersFrom a n) ≡ true
+unfolding numbersFrom elem
 range-elem x a zero h k = absurd (omega arith)
 range-elem x a (suc n) h k = go (eqb x a) refl (range-elem x (suc a) n)
   where
-    go : (b : Bool) → eqb x a ≡ b → (suc a ≤ x → x < suc a + n → elem x (range (suc a) n) ≡ true) → (b || elem x (range (suc a) n)) ≡ true
+    go : (b : Bool) → eqb x a ≡ b → (suc a ≤ x → x < suc a + n → elem x (numbersFrom (suc a) n) ≡ true) → (b || elem x (numbersFrom (suc a) n)) ≡ true
     go true q rest = refl
     go false q rest = let apart : x ≢ a = eqb-false x a q in rest (omega arith) (omega arith)
 
 -- no number stands in a range twice
-pub repeats-range : (a n : ℕ) → repeats (range a n) ≡ false
-unfolding range repeats
+pub repeats-range : (a n : ℕ) → repeats (numbersFrom a n) ≡ false
+unfolding numbersFrom repeats
 repeats-range a zero = refl
-repeats-range a (suc n) = none-or (elem a (range (suc a) n)) (repeats (range (suc a) n))
-    (not-so (elem a (range (suc a) n)) (λ e. let h = elem-range a (suc a) n e in omega arith))
+repeats-range a (suc n) = none-or (elem a (numbersFrom (suc a) n)) (repeats (numbersFrom (suc a) n))
+    (not-so (elem a (numbersFrom (suc a) n)) (λ e. let h = elem-range a (suc a) n e in omega arith))
     (repeats-range (suc a) n)
 
 -- Lists of numbers from 1 to m: the records of a file.
@@ -206,35 +206,35 @@ in-range-append m a b h k x e = go (elem x a) refl (sym (elem-append x a b) ∙ 
     go true q f = h x q
     go false q f = k x f
 
-pub in-range-one : (m x : ℕ) → 1 ≤ x → x ≤ m → InRange m (x ∷ [])
-in-range-one m x h k y e = elem-cases y x [] e (λ (q : y ≡ x). omega arith) (in-range-nil m y)
-
 pub in-range-cons : (m x : ℕ) (l : List ℕ) → 1 ≤ x → x ≤ m → InRange m l → InRange m (x ∷ l)
 in-range-cons m x l h k r y e = elem-cases y x l e (λ (q : y ≡ x). omega arith) (r y)
 
+pub in-range-one : (m x : ℕ) → 1 ≤ x → x ≤ m → InRange m (x ∷ [])
+in-range-one m x h k = in-range-cons m x [] h k (in-range-nil m)
+
 -- a list in the range has only numbers of it
-pub in-range-within : (m : ℕ) (l : List ℕ) → InRange m l → (x : ℕ) → elem x l ≡ true → elem x (range 1 m) ≡ true
+pub in-range-within : (m : ℕ) (l : List ℕ) → InRange m l → (x : ℕ) → elem x l ≡ true → elem x (numbersFrom 1 m) ≡ true
 in-range-within m l h x e = let b = h x e in range-elem x 1 m (b .0) (omega arith)
 
 -- distinct numbers of 1 to m are at most m
 pub distinct-short : (m : ℕ) (l : List ℕ) → repeats l ≡ false → InRange m l → length l ≤ m
-distinct-short m l e h = rw (length-range 1 m) at (distinct-within l (range 1 m) e (in-range-within m l h))
+distinct-short m l e h = rw (length-range 1 m) at (distinct-within l (numbersFrom 1 m) e (in-range-within m l h))
 
 -- a list with all numbers of 1 to m has at least m places
-pub covers-long : (m : ℕ) (l : List ℕ) → lacks (range 1 m) l ≡ false → m ≤ length l
-covers-long m l e = rw (length-range 1 m) at (distinct-within (range 1 m) l (repeats-range 1 m) (lacks-elem (range 1 m) l e))
+pub covers-long : (m : ℕ) (l : List ℕ) → lacks (numbersFrom 1 m) l ≡ false → m ≤ length l
+covers-long m l e = rw (length-range 1 m) at (distinct-within (numbersFrom 1 m) l (repeats-range 1 m) (lacks-elem (numbersFrom 1 m) l e))
 
 -- so a list of fewer places lacks one
-pub short-lacks : (m : ℕ) (l : List ℕ) → length l < m → lacks (range 1 m) l ≡ true
-short-lacks m l h = go (lacks (range 1 m) l) refl
+pub short-lacks : (m : ℕ) (l : List ℕ) → length l < m → lacks (numbersFrom 1 m) l ≡ true
+short-lacks m l h = go (lacks (numbersFrom 1 m) l) refl
   where
-    go : (b : Bool) → lacks (range 1 m) l ≡ b → b ≡ true
+    go : (b : Bool) → lacks (numbersFrom 1 m) l ≡ b → b ≡ true
     go true q = refl
     go false q = absurd (not-le-of-lt h (covers-long m l q))
 
 -- m distinct numbers of 1 to m are all of them
-pub distinct-full : (m : ℕ) (l : List ℕ) → repeats l ≡ false → InRange m l → length l ≡ m → lacks (range 1 m) l ≡ false
-distinct-full m l e h n = elem-lacks (range 1 m) l (λ x f. go x (elem-range x 1 m f) (elem x l) refl)
+pub distinct-full : (m : ℕ) (l : List ℕ) → repeats l ≡ false → InRange m l → length l ≡ m → lacks (numbersFrom 1 m) l ≡ false
+distinct-full m l e h n = elem-lacks (numbersFrom 1 m) l (λ x f. go x (elem-range x 1 m f) (elem x l) refl)
   where
     go : (x : ℕ) → (1 ≤ x) × (x < 1 + m) → (b : Bool) → elem x l ≡ b → b ≡ true
     go x k true q = refl
@@ -243,7 +243,7 @@ distinct-full m l e h n = elem-lacks (range 1 m) l (λ x f. go x (elem-range x 1
         absurd (omega arith)
 
 -- distinct numbers of 1 to m, all of them: m places
-pub full-length : (m : ℕ) (l : List ℕ) → repeats l ≡ false → InRange m l → lacks (range 1 m) l ≡ false → length l ≡ m
+pub full-length : (m : ℕ) (l : List ℕ) → repeats l ≡ false → InRange m l → lacks (numbersFrom 1 m) l ≡ false → length l ≡ m
 full-length m l e h f =
     let short = distinct-short m l e h in
     let long = covers-long m l f in
@@ -335,23 +335,23 @@ first-sums a d [] = refl
 first-sums a d (x ∷ l) = refl
 
 -- the running sums of the lengths of rows end at the length of all the rows laid end to end
-pub last-sums : (a d : ℕ) (rows : List (List ℕ)) → getD (sumsFrom a (map length rows)) (length rows) d ≡ a + length (concat rows)
-unfolding sumsFrom concat
+pub last-sums : (a d : ℕ) (rows : List (List ℕ)) → getD (sumsFrom a (map length rows)) (length rows) d ≡ a + length (flatten rows)
+unfolding sumsFrom flatten
 last-sums a d [] = omega arith
 last-sums a d (row ∷ rows) = last-sums (a + length row) d rows ∙ simp length-append (omega arith)
 
 -- a function at each number of each row
-pub map-concat : (f : ℕ → ℕ) (rows : List (List ℕ)) → concat (map (λ (row : List ℕ). map f row) rows) ≡ map f (concat rows)
-unfolding concat
-map-concat f [] = refl
-map-concat f (row ∷ rows) = rw (map-concat f rows, map-append f row (concat rows))
+pub map-flatten : (f : ℕ → ℕ) (rows : List (List ℕ)) → flatten (map (λ (row : List ℕ). map f row) rows) ≡ map f (flatten rows)
+unfolding flatten
+map-flatten f [] = refl
+map-flatten f (row ∷ rows) = rw (map-flatten f rows, map-append f row (flatten rows))
 
 -- a row is no longer than all the rows laid end to end
-pub row-short : (rows : List (List ℕ)) (u : ℕ) → length (getD rows u []) ≤ length (concat rows)
-unfolding concat
+pub row-short : (rows : List (List ℕ)) (u : ℕ) → length (getD rows u []) ≤ length (flatten rows)
+unfolding flatten
 row-short [] u = omega arith
-row-short (row ∷ rows) zero = let n = length-append row (concat rows) in omega arith
-row-short (row ∷ rows) (suc u) = let n = length-append row (concat rows) in omega (arith, row-short rows u)
+row-short (row ∷ rows) zero = let n = length-append row (flatten rows) in omega arith
+row-short (row ∷ rows) (suc u) = let n = length-append row (flatten rows) in omega (arith, row-short rows u)
 
 -- a function's rows, by place
 pub map-at : (f : ℕ → List ℕ) (l : List ℕ) (i : ℕ) → i < length l → getD (map f l) i [] ≡ f (getD l i 0)

@@ -10,19 +10,14 @@ unfoldable pub overlay : List ℕ → List ℕ → List ℕ
 overlay new old = new ++ drop (length new) old
 
 -- a, a + 1, .., the `count` numbers from a on
-unfoldable pub range : ℕ → ℕ → List ℕ
-range a zero = []
-range a (suc count) = a ∷ range (suc a) count
+unfoldable pub numbersFrom : ℕ → ℕ → List ℕ
+numbersFrom a zero = []
+numbersFrom a (suc count) = a ∷ numbersFrom (suc a) count
 
 -- a, a + x, a + x + y, ..: the running sums of a list, from a on, one more than the list has places
 unfoldable pub sumsFrom : ℕ → List ℕ → List ℕ
 sumsFrom a [] = a ∷ []
 sumsFrom a (x ∷ xs) = a ∷ sumsFrom (a + x) xs
-
--- the rows one after the other
-unfoldable pub concat : List (List ℕ) → List ℕ
-concat [] = []
-concat (row ∷ rows) = row ++ concat rows
 
 -- whether x stands in the list
 unfoldable pub elem : ℕ → List ℕ → Bool

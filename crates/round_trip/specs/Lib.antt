@@ -1,2 +1,2 @@
 -- What `write_and_read` answers and leaves.
-pub mod Returned
+pub mod Trip

@@ -1,6 +1,7 @@
-// "A file written and read again gives its rows", as a contract: the theorem about the two calls'
-// definitions, said once more of the results that the calls themselves hand back.
-ghost use Rattle.round_trip.specs.Returned.{LongEnough, Returned};
+// Rows written and read back: the round trip of the two calls' definitions, said once more of the
+// results that the calls themselves hand back. The theorem is `returned` in proofs/Facts.antt.
+ghost use mathlib.Core.Path.{_≡_};
+ghost use Rattle.round_trip.specs.Trip.{tripExit, outcomeOfTrip};
 
 // Writes the rows and reads back what was written: the writer's number, and with 0 the reader's.
 pub fn write_and_read(
@@ -11,7 +12,7 @@ pub fn write_and_read(
     targets_read: &mut [u16],
     marks: &mut [u16],
 ) -> usize
-    ensures { λ r. ⌜ (LongEnough (now (offsets .entry)) (now (targets .entry)) (now («offsets_read» .entry)) (now («targets_read» .entry)) (now (marks .entry)) → Returned (now (offsets .entry)) (now (targets .entry)) (now (file .entry)) (now («offsets_read» .entry)) (now («targets_read» .entry)) r (now («offsets_read» .exit)) (now («targets_read» .exit))) ⌝ }
+    ensures { λ r. ⌜ tripExit r (now (file .exit)) (now («offsets_read» .exit)) (now («targets_read» .exit)) (now (marks .exit)) ≡ outcomeOfTrip (now (offsets .entry)) (now (targets .entry)) (now (file .entry)) (now («offsets_read» .entry)) (now («targets_read» .entry)) (now (marks .entry)) ⌝ }
 {
     let number = graph::write(offsets, targets, file);
     if number != numbers::SUCCESS {

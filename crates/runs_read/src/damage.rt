@@ -98,7 +98,7 @@ fn cut_length(length: usize, seed: u64) -> usize {
     length
 }
 
-fn lengths(seed: u64) -> Lengths {
+fn lent(seed: u64) -> Lengths {
     let second = next(seed);
     let third = next(second);
     Lengths {
@@ -162,7 +162,7 @@ fn outcome(round: u16, seed: u64) -> usize {
     let mut rows = [0u16; 20];
     let mut row_targets = [0u16; 64];
     let mut seen = [0u16; 64];
-    let round_lengths = lengths(next(seed));
+    let round_lengths = lent(next(seed));
     let number = predict(&file, round_lengths, &mut rows, &mut row_targets, &mut seen);
     if is_right(&file, round_lengths, number, &rows, &row_targets) {
         number
@@ -193,7 +193,7 @@ fn count(met: &mut [u16], number: usize) {
     }
 }
 
-// Writes " N of number K".
+// Writes ", N of K": K was met N times.
 fn print_met(met: &[u16], number: u16) {
     io::write_all(STDOUT_FILENO, b", ");
     io::print_decimal(STDOUT_FILENO, at(met, number) as u64);

@@ -21,7 +21,7 @@ const CASES: [[u16; 9]; 46] = [
     [3, 0, 4, 0, 4, 9, 9, 9, 1],
     // 1 (under 4) before 2
     [3, 0, 0, 0, 0, 9, 9, 9, 1],
-    // 2: n or m outside its size, in files of every length
+    // 2: n or m outside its size, in whole files and in files of 4 bytes
     [28, 0, 0, 0, 0, 9, 9, 9, 2],
     [4, 0, 0, 1, 0, 9, 9, 9, 2],
     [28, 0, 4097, 0, 4097, 9, 9, 9, 2],
@@ -87,7 +87,7 @@ fn cell(row: u16, column: u16) -> u16 {
     0
 }
 
-fn lengths(row: u16) -> Lengths {
+fn lent(row: u16) -> Lengths {
     Lengths {
         file: cell(row, 0) as usize,
         offsets: cell(row, 5) as usize,
@@ -124,7 +124,7 @@ fn is_refused(file: &[u8], lent: Lengths, number: usize) -> bool {
 fn is_right(row: u16) -> bool {
     let mut file = [0u8; 32];
     make(&mut file, row);
-    is_refused(&file, lengths(row), cell(row, 8) as usize)
+    is_refused(&file, lent(row), cell(row, 8) as usize)
 }
 
 fn table() -> Tally {

@@ -93,30 +93,39 @@ fn is_refused(offsets: &[u16], targets: &[u16], number: usize) -> bool {
     )
 }
 
-fn is_right(round: u16, seed: u64) -> bool {
-    let mut offsets = [0u16; 10];
-    let mut targets = [0u16; 20];
-    make(&mut offsets, &mut targets, round, seed);
-    let number = expected(&offsets, &targets);
+fn is_right(offsets: &[u16], targets: &[u16], number: usize) -> bool {
     if number == 0 {
-        comes_back(&offsets, &targets)
+        comes_back(offsets, targets)
     } else {
-        is_refused(&offsets, &targets, number)
+        is_refused(offsets, targets, number)
     }
 }
 
-fn rounds() -> Tally {
+// The tally with one case more, where the round's rows must be answered with this number.
+fn judged(tally: Tally, number: usize, round: u16, seed: u64) -> Tally {
+    let mut offsets = [0u16; 10];
+    let mut targets = [0u16; 20];
+    make(&mut offsets, &mut targets, round, seed);
+    if expected(&offsets, &targets) != number {
+        return tally;
+    }
+    tally.with(is_right(&offsets, &targets, number))
+}
+
+// All rounds whose rows must be answered with this number.
+fn rounds(number: usize) -> Tally {
     let mut tally = Tally::new();
     let mut state: u64 = 8;
     let mut round: u16 = 0;
     while round < ROUNDS {
         state = leap(state);
-        tally = tally.with(is_right(round, state));
+        tally = judged(tally, number, round, state);
         round += 1;
     }
     tally
 }
 
 pub fn run() {
-    rounds().print(b"damaged rows");
+    rounds(0).print(b"damaged rows that are written");
+    rounds(11).print(b"damaged rows that are refused");
 }

@@ -10,7 +10,7 @@ const VERTICES: u16 = 37;
 const EDGES: u16 = 101;
 
 // The lists' lengths: the combination's digits to the base 3 choose them. The file has 482 bytes.
-fn lengths(combination: u16) -> Lengths {
+fn lent(combination: u16) -> Lengths {
     Lengths {
         offsets: 37 + extra(combination % 3),
         targets: 100 + extra(combination / 3 % 3),
@@ -33,7 +33,7 @@ fn expected(combination: u16) -> usize {
 }
 
 fn is_right(combination: u16) -> bool {
-    drawn::is_right(VERTICES, EDGES, lengths(combination), expected(combination))
+    drawn::is_right(VERTICES, EDGES, lent(combination), expected(combination))
 }
 
 fn combinations() -> Tally {

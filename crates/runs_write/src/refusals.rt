@@ -71,7 +71,7 @@ fn cell(row: u16, column: u16) -> u16 {
     0
 }
 
-fn lengths(row: u16) -> Lengths {
+fn lent(row: u16) -> Lengths {
     Lengths {
         offsets: cell(row, 0) as usize,
         targets: cell(row, 3) as usize,
@@ -89,7 +89,7 @@ fn is_right(row: u16) -> bool {
         &offsets,
         &targets,
         &mut file,
-        lengths(row),
+        lent(row),
         cell(row, 7) as usize,
     )
 }

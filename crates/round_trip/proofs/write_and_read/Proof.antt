@@ -1,9 +1,9 @@
--- `round_trip::write_and_read` meets its contract, from what the two calls ensure and the round trip's theorem alone.
+-- `round_trip::write_and_read` meets its contract: what the two calls ensure, one after the other.
 use borrow.Author.Needs.{needs}
 use native.Mathlib.Omega.{arith}
 use mathlib.Core.Path.{sym}
 use lib.Seq.{length-take-le}
-use Rattle.round_trip.proofs.Facts.{Fitting, wrote-fitting, refusal-returned, rows-returned}
+use Rattle.round_trip.proofs.Facts.{Fitting, wrote-fitting, trip-refused, trip-read}
 use Rattle.round_trip.proofs.write_and_read.Statement.{statement}
 use Rattle.round_trip.proofs.write_and_read.Tie as tie
 
@@ -16,7 +16,7 @@ same-length c = search needs
 returns : tie.Need-returns
 returns c =
     let a = c .before .before .before .before .before .before .before .before .before .before .before .args in
-    λ long. refusal-returned (a .offsets .now) (a .targets .now) (a .file .now) (c .before .before .before .write .ensures) (c .if1 .taken) _ _ _ _
+    trip-refused (a .offsets .now) (a .targets .now) (a .file .now) (c .before .before .before .write .ensures) (a .offsets-read .now) (a .targets-read .now) (a .marks .now) (c .if1 .taken)
 
 -- what was written fits
 fitting : (c : tie.Else1)
@@ -65,7 +65,7 @@ returns-2 : tie.Need-returns-2
 returns-2 c =
     let written = c .before .before .before .before .before .before .before .before .before .before .before in
     let a = written .before .before .before .before .before .before .before .before .before .before .before .args in
-    rows-returned (a .offsets .now) (a .targets .now) (a .file .now) (written .before .before .before .write .ensures) (a .offsets-read .now) (a .targets-read .now) (a .marks .now)
+    trip-read (a .offsets .now) (a .targets .now) (a .file .now) (written .before .before .before .write .ensures) (a .offsets-read .now) (a .targets-read .now) (a .marks .now)
     (written .if1 .left) (c .before .before .before .before .before .before .read .ensures)
 
 pub write-and-read-spec : {M : Type 1} → statement M

@@ -6,7 +6,7 @@ use mathlib.Core.Path.{_≡_, refl, _∙_}
 use mathlib.Core.List.{List}
 use Prim.Native.Nat.{ℕ, _+_, _-_, _≤_, _<_, zero-le}
 use lib.ListN.{length, length-set}
-use Rattle.graph.specs.File.{head}
+use Rattle.graph.specs.File.{headIndex}
 use Rattle.graph.proofs.FillFacts.{Filling, fill-start, fill-head, fill-offsets, fill-targets, fill-room, fill-record}
 use Rattle.graph.proofs.WalkFacts.{target-word, next-word}
 use Rattle.graph.proofs.steps.fill.Statement.{statement}
@@ -46,7 +46,7 @@ loop-less : tie.Need-loop-less Inv-loop μ-loop
 loop-less c = search needs
 
 loop-again : tie.Need-loop-again Inv-loop μ-loop
-unfolding head
+unfolding headIndex
 loop-again c =
     let at-loop = c .before .before .before in
     let start = at-loop .before .before .before .before in (

@@ -8,7 +8,7 @@ use Prim.Native.Nat.{ℕ, _+_, _-_, _<_}
 use lib.ListN.{length, drop, length-set}
 use lib.Seq.{drop-set-lt}
 use Rattle.graph.proofs.MarkFacts.{Marking, mark-start, mark-head, mark-again, mark-new, mark-room, mark-few, mark-full}
-use Rattle.graph.specs.File.{head}
+use Rattle.graph.specs.File.{headIndex}
 use Rattle.graph.proofs.WalkFacts.{next-word}
 use Rattle.graph.proofs.steps.mark.Statement.{statement}
 use Rattle.graph.proofs.steps.mark.Tie as tie
@@ -40,7 +40,7 @@ loop-less : tie.Need-loop-less Inv-loop μ-loop
 loop-less c = search needs
 
 loop-again : tie.Need-loop-again Inv-loop μ-loop
-unfolding head
+unfolding headIndex
 loop-again c =
     let at-loop = c .before .before .before in
     let start = at-loop .before .before .before in (

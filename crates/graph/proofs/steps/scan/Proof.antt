@@ -5,34 +5,27 @@ use Rattle.graph.proofs.ScanFacts.{scan-head, scan-next, scan-target, s
 use Rattle.graph.proofs.steps.scan.Statement.{statement}
 use Rattle.graph.proofs.steps.scan.Tie as tie
 
--- src/steps.rt:71:35
 add-any-reaches : tie.Need-add-any-reaches
 add-any-reaches c = search needs
 
--- src/steps.rt:71:8
 any-reaches-requires : tie.Need-any-reaches-requires
 any-reaches-requires c κs = search needs
 
--- src/steps.rt:72:9
 returns : tie.Need-returns
 returns c =
     let first = c .before in
     let start = first .before .before in
     scan-head (start .args .file .now) (start .pre) (sym (first .any-reaches .ensures) ∙ c .if1 .taken)
 
--- src/steps.rt:74:26
 add-any-reaches-2 : tie.Need-add-any-reaches-2
 add-any-reaches-2 c = search needs
 
--- src/steps.rt:74:39
 add-any-reaches-3 : tie.Need-add-any-reaches-3
 add-any-reaches-3 c = search needs
 
--- src/steps.rt:74:8
 any-reaches-requires-2 : tie.Need-any-reaches-requires-2
 any-reaches-requires-2 c κs = search needs
 
--- src/steps.rt:75:9
 returns-2 : tie.Need-returns-2
 returns-2 c =
     let second = c .before in
@@ -41,15 +34,12 @@ returns-2 c =
     scan-next (start .args .file .now) (start .pre) (sym (first .any-reaches .ensures) ∙ second .before .if1 .left)
     (sym (second .any-reaches2 .ensures) ∙ c .if2 .taken)
 
--- src/steps.rt:77:26
 add-any-reaches-4 : tie.Need-add-any-reaches-4
 add-any-reaches-4 c = search needs
 
--- src/steps.rt:77:8
 any-reaches-requires-3 : tie.Need-any-reaches-requires-3
 any-reaches-requires-3 c κs = search needs
 
--- src/steps.rt:78:9
 returns-3 : tie.Need-returns-3
 returns-3 c =
     let third = c .before in
@@ -59,7 +49,6 @@ returns-3 c =
     scan-target (start .args .file .now) (start .pre) (sym (first .any-reaches .ensures) ∙ second .before .if1 .left)
     (sym (second .any-reaches2 .ensures) ∙ third .before .if2 .left) (sym (third .any-reaches3 .ensures) ∙ c .if3 .taken)
 
--- src/steps.rt:67:1
 returns-4 : tie.Need-returns-4
 returns-4 c =
     let third = c .before in

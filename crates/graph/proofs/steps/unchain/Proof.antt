@@ -1,4 +1,4 @@
--- `graph::steps::unchain` meets its contract: what the survey finds decides whether rows are written.
+-- `graph::steps::unchain` meets its contract: what the walk of the chains finds decides whether rows are written.
 use borrow.Author.Needs.{needs}
 use borrow.Author.Tests.{ne-eqb}
 use mathlib.Core.Path.{_≡_, sym, _∙_}
@@ -14,28 +14,28 @@ unwritten : (number : ℕ) (new old : List ℕ) → (number ≡ 0 → ⊥) → o
 unfolding writesRows
 unwritten number new old h = rw (ne-eqb number 0 h)
 
-survey-requires : tie.Need-survey-requires
-survey-requires c κs = search needs
+check-chains-requires : tie.Need-check-chains-requires
+check-chains-requires c κs = search needs
 
 same-length : tie.Need-same-length
 same-length c = search needs
 
 returns : tie.Need-returns
 returns c =
-    let survey = c .before .before .before .survey in
-    let refused : survey .result ≡ 0 → ⊥ = c .if1 .taken in
+    let checked = c .before .before .before .check-chains in
+    let refused : checked .result ≡ 0 → ⊥ = c .if1 .taken in
     record {
-      judged = survey .ensures .0;
-      starts = unwritten (survey .result) _ _ refused;
-      ends = unwritten (survey .result) _ _ refused;
-      cleared = survey .ensures .1;
+      judged = checked .ensures .0;
+      starts = unwritten (checked .result) _ _ refused;
+      ends = unwritten (checked .result) _ _ refused;
+      cleared = checked .ensures .1;
     }
 
 fill-requires : tie.Need-fill-requires
 fill-requires c κs =
-    let surveyed = c .before .before .before .before .before in
-    let start = surveyed .before .before .before .before .before .before in
-    (record { scanned = start .pre .0; whole = sym (surveyed .survey .ensures .0) ∙ c .before .before .if1 .left }, (start .pre .1 .0, start .pre .1 .1 .0))
+    let after = c .before .before .before .before .before in
+    let start = after .before .before .before .before .before .before in
+    (record { scanned = start .pre .0; whole = sym (after .check-chains .ensures .0) ∙ c .before .before .if1 .left }, (start .pre .1 .0, start .pre .1 .1 .0))
 
 same-length-2 : tie.Need-same-length-2
 same-length-2 c = search needs
@@ -50,13 +50,13 @@ returns-2 : tie.Need-returns-2
 unfolding writesRows
 returns-2 c =
     let filled = c .before .before .before .before in
-    let surveyed = filled .before .before .before .before .before .before in
+    let after = filled .before .before .before .before .before .before in
     record {
-      judged = sym (filled .before .before .before .if1 .left) ∙ surveyed .survey .ensures .0;
+      judged = sym (filled .before .before .before .if1 .left) ∙ after .check-chains .ensures .0;
       starts = filled .fill .ensures .0;
       ends = filled .fill .ensures .1;
-      cleared = surveyed .survey .ensures .1;
+      cleared = after .check-chains .ensures .1;
     }
 
 pub unchain-spec : {M : Type 1} → statement M
-unchain-spec = tie.close (tie.spec survey-requires same-length returns fill-requires same-length-2 same-length-3 same-length-4 returns-2)
+unchain-spec = tie.close (tie.spec check-chains-requires same-length returns fill-requires same-length-2 same-length-3 same-length-4 returns-2)

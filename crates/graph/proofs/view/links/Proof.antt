@@ -1,9 +1,9 @@
 -- `graph::view::links` meets its contract: with 11 the part is empty, and otherwise what the view's test ruled out says that both
--- offsets are there, in order and within the targets. Assumes nothing.
+-- offsets are there, in order and within the targets.
 use borrow.Author.Needs.{needs}
 use native.Mathlib.Omega.{arith}
 use denote.Ref.{now}
-use Rattle.graph.proofs.InView.{InView, no-part, in-view}
+use Rattle.graph.proofs.InView.{InView, no-part, in-view, part-between}
 use Rattle.graph.proofs.view.links.Statement.{statement}
 use Rattle.graph.proofs.view.links.Tie as tie
 
@@ -42,7 +42,7 @@ part-result-end : tie.Need-part-result-end
 part-result-end c = omega (arith, seen (c .before .before))
 
 returns-2 : tie.Need-returns-2
-returns-2 c = cc (seen (c .before .before .before) .part)
+returns-2 c = part-between (seen (c .before .before .before)) (c .before .before .element .ensures .0) (c .before .element2 .ensures .0)
 
 pub links-spec : {M : Type 1} → statement M
 links-spec =

@@ -1,5 +1,5 @@
 -- `graph::view::links_number` meets its contract: each way out rewrites the view's test with the tests that led there.
--- Assumes nothing.
+--
 use borrow.Author.Needs.{needs}
 use borrow.Author.Tests.{lt-ltb, le-ltb}
 use Rattle.numbers.specs.Refusals.{first}

@@ -1,45 +1,36 @@
+-- `graph::words::word` meets its contract: the two bytes, low byte first.
 use borrow.Author.Needs.{needs}
 use Rattle.graph.specs.File.{word}
 use Rattle.graph.proofs.words.word.Statement.{statement}
 use Rattle.graph.proofs.words.word.Tie as tie
 
--- src/words.rt:22:25
 mul-wide : tie.Need-mul-wide
 mul-wide c = search needs
 
--- src/words.rt:22:20
 shared-slice-read-wide : tie.Need-shared-slice-read-wide
 shared-slice-read-wide c = search needs
 
--- src/words.rt:22:9
 wide-requires : tie.Need-wide-requires
 wide-requires c κs = search needs
 
--- src/words.rt:23:26
 mul-wide-2 : tie.Need-mul-wide-2
 mul-wide-2 c = search needs
 
--- src/words.rt:23:26
 add-wide : tie.Need-add-wide
 add-wide c = search needs
 
--- src/words.rt:23:21
 shared-slice-read-wide-2 : tie.Need-shared-slice-read-wide-2
 shared-slice-read-wide-2 c = search needs
 
--- src/words.rt:23:9
 wide-requires-2 : tie.Need-wide-requires-2
 wide-requires-2 c κs = search needs
 
--- src/words.rt:24:11
 mul-result : tie.Need-mul-result
 mul-result c = search needs
 
--- src/words.rt:24:5
 add-result : tie.Need-add-result
 add-result c = search needs
 
--- src/words.rt:17:1
 returns : tie.Need-returns
 unfolding word
 returns c = (cc, search needs)

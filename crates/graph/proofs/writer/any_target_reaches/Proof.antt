@@ -1,5 +1,5 @@
 -- `graph::writer::any_target_reaches` meets its contract. The loop's invariant: the whole list has such a target where the rest from i on
--- has one. The measure is what is left of the list. Assumes nothing.
+-- has one. The measure is what is left of the list.
 use mathlib.Core.Bool.{_||_}
 use mathlib.Core.Path.{_≡_, refl, sym, _∙_}
 use Prim.Native.Nat.{_+_, _-_}

@@ -1,5 +1,5 @@
 -- `graph::writer::falls` meets its contract. The loop's invariant: the whole list falls where the rest from i on, judged against the
--- last offset passed, does. The measure is what is left of the list. Assumes nothing.
+-- last offset passed, does. The measure is what is left of the list.
 use mathlib.Core.Bool.{_||_}
 use mathlib.Core.Path.{_≡_, refl, sym, _∙_}
 use Prim.Native.Nat.{_+_, _-_}

@@ -1,4 +1,4 @@
--- `graph::writer::index_after` meets its contract: each way out rewrites the index with the test that led there. Assumes nothing.
+-- `graph::writer::index_after` meets its contract: each way out rewrites the index with the test that led there.
 use native.Mathlib.Numerals.{add-one}
 use borrow.Author.Tests.{eq-eqb, ne-eqb}
 use Rattle.graph.specs.WriteSteps.{indexAfter}

@@ -1,5 +1,5 @@
 -- `graph::writer::put_heads` meets its contract. The loop's invariant: n, m and the heads of the vertices passed are written. The measure
--- is how many vertices are left. Assumes nothing.
+-- is how many vertices are left.
 use mathlib.Core.Path.{_≡_, ap, _∙_}
 use mathlib.Core.List.{List}
 use Prim.Native.Nat.{ℕ, _+_, _-_, _≤_, _<_, zero-le}
@@ -10,7 +10,7 @@ use Rattle.graph.specs.Graph.{rowsOf}
 use Rattle.graph.specs.Encode.{fileWords, encode}
 use Rattle.graph.proofs.Encoding.{Written, same-index}
 use Rattle.graph.proofs.Storing.{Begun, begun-none, begun-put, begun-count, begun-here, begun-more}
-use Rattle.graph.proofs.WellFormedRows.{written}
+use Rattle.graph.proofs.WellFormedRows.{written-rows}
 use Rattle.graph.proofs.writer.put_heads.Statement.{statement}
 use Rattle.graph.proofs.writer.put_heads.Tie as tie
 
@@ -26,7 +26,7 @@ abbrev μ-loop : tie.MeasureT-loop
 
 -- what is known of the rows
 rows : (c : tie.Start Inv-loop μ-loop) → Written (now (c .args .offsets)) (now (c .args .targets)) (c .args .n)
-rows c = written (c .pre .0)
+rows c = written-rows (c .pre .0)
 
 -- how far the file is written: not at all, n, and m
 none : (c : tie.Start Inv-loop μ-loop) → Begun (words (now (c .args .offsets)) (now (c .args .targets))) (now (c .args .file)) (now (c .args .file)) 0

@@ -1,5 +1,5 @@
 -- `graph::writer::put_records` meets its contract. The loop's invariant: k edges are written, and k lies within the row of `vertex`. A
--- turn either leaves a row that is used up or writes one record. The measure is how many vertices and edges are left. Assumes nothing.
+-- turn either leaves a row that is used up or writes one record. The measure is how many vertices and edges are left.
 use mathlib.Core.Path.{_≡_, refl, sym, ap, _∙_}
 use mathlib.Core.List.{List}
 use Prim.Native.Nat.{ℕ, _+_, _*_, _-_, _/_, _%_, _≤_, _<_, zero-le}
@@ -13,7 +13,7 @@ use Rattle.graph.specs.Encode.{fileWords, encode}
 use Rattle.graph.specs.WriteSteps.{indexAfter}
 use Rattle.graph.proofs.Encoding.{Written, same-index}
 use Rattle.graph.proofs.Storing.{Begun, begun-put, begun-count, begun-all}
-use Rattle.graph.proofs.WellFormedRows.{written}
+use Rattle.graph.proofs.WellFormedRows.{written-rows}
 use Rattle.graph.proofs.writer.put_records.Statement.{statement}
 use Rattle.graph.proofs.writer.put_records.Tie as tie
 
@@ -73,7 +73,7 @@ abbrev μ-loop : tie.MeasureT-loop
 
 -- what is known of the rows
 rows : (c : tie.Start Inv-loop μ-loop) → Written (now (c .args .offsets)) (now (c .args .targets)) (c .args .n)
-rows c = written (c .pre .0)
+rows c = written-rows (c .pre .0)
 
 -- where a record is written, there is an edge for it
 edge : (c : tie.Else1 Inv-loop μ-loop) → c .before .before .before .loop .k < length (now (c .before .before .before .before .before .before .before .args .targets))

@@ -1,5 +1,5 @@
 -- `graph::writer::write` meets its contract: each way out has the number of the tests that led there, and only the last one, behind both
--- stores, leaves other bytes. Assumes nothing.
+-- stores, leaves other bytes.
 use mathlib.Core.Bool.{true, false}
 use mathlib.Core.Path.{_≡_, sym, ap, _∙_}
 use mathlib.Core.List.{List}
@@ -18,7 +18,7 @@ use Rattle.lists.proofs.Rows.{length-take-most}
 use Rattle.graph.specs.Graph.{rowsOf}
 use Rattle.graph.specs.File.{fileLength}
 use Rattle.graph.specs.Encode.{encode}
-use Rattle.graph.specs.Write.{rowCount, writeRefusals, writeNumber, writeOutcomeBy, writeOutcome, writeExit}
+use Rattle.graph.specs.Write.{rowCount, writeRefusals, writeNumber, writeOutcomeBy, outcomeOfWrite, writeExit}
 use Rattle.graph.specs.WriteSteps.{WellFormed}
 use Rattle.graph.specs.Write.{malformed as Write·malformed}
 use Rattle.graph.proofs.WellFormedRows.{well-formed}
@@ -27,8 +27,8 @@ use Rattle.graph.proofs.writer.write.Tie as tie
 
 module _ (offsets targets file : List ℕ) where
   -- 11
-  bad-rows : Write·malformed offsets targets ≡ true → writeExit badRows file ≡ writeOutcome offsets targets file
-  unfolding writeOutcome writeOutcomeBy writeNumber writeRefusals first
+  bad-rows : Write·malformed offsets targets ≡ true → writeExit badRows file ≡ outcomeOfWrite offsets targets file
+  unfolding outcomeOfWrite writeOutcomeBy writeNumber writeRefusals first
   bad-rows h = simp h
 
   module _ (good : Write·malformed offsets targets ≡ false) where
@@ -37,16 +37,16 @@ module _ (offsets targets file : List ℕ) where
     need = ap (λ (n : ℕ). fileLength n (length targets)) (sub-one (length offsets))
 
     -- 20
-    short : length file < fileLength (length offsets - 1) (length targets) → writeExit shortList file ≡ writeOutcome offsets targets file
-    unfolding writeOutcome writeOutcomeBy writeNumber writeRefusals first
+    short : length file < fileLength (length offsets - 1) (length targets) → writeExit shortList file ≡ outcomeOfWrite offsets targets file
+    unfolding outcomeOfWrite writeOutcomeBy writeNumber writeRefusals first
     short h = simp (good, ← need, lt-ltb _ _ h)
 
     -- 0
     whole : {heads put : List ℕ} → fileLength (length offsets - 1) (length targets) ≤ length file
         → heads ≡ overlay (take (2 * (2 + (length offsets - 1))) (encode (rowsOf offsets targets))) file
         → put ≡ overlay (encode (rowsOf offsets targets)) heads
-        → writeExit success put ≡ writeOutcome offsets targets file
-    unfolding writeOutcome writeOutcomeBy writeNumber writeRefusals first
+        → writeExit success put ≡ outcomeOfWrite offsets targets file
+    unfolding outcomeOfWrite writeOutcomeBy writeNumber writeRefusals first
     whole h a b =
         let bytes : List ℕ = encode (rowsOf offsets targets) in
         let part : List ℕ = take (2 * (2 + (length offsets - 1))) bytes in

@@ -1,5 +1,4 @@
 -- `runs_read::damage::rounds` is safe and ends. The lists keep their lengths. The loop counts up; the measure is how many rounds are left.
--- Assumes nothing.
 use Prim.Native.Nat.{_≤_, _-_}
 use mathlib.Core.Path.{_≡_}
 use lib.ListN.{length}

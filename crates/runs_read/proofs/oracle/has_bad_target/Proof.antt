@@ -1,5 +1,4 @@
 -- `runs_read::oracle::has_bad_target` is safe and ends. The loop counts the records down; the measure is the record.
--- Assumes nothing.
 use Prim.Native.Nat.{_≤_}
 use borrow.Author.Needs.{needs}
 use Rattle.runs_read.proofs.oracle.has_bad_target.Statement.{statement}

@@ -1,5 +1,4 @@
 -- `runs_read::oracle::walk_all` is safe and ends. The lists keep their lengths. The measure is the steps that are left.
--- Assumes nothing.
 use mathlib.Core.Path.{_≡_}
 use lib.ListN.{length}
 use borrow.Author.Needs.{needs}

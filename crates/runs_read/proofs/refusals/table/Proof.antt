@@ -1,5 +1,4 @@
 -- `runs_read::refusals::table` is safe and ends. The loop counts up; the measure is how many rows are left.
--- Assumes nothing.
 use Prim.Native.Nat.{_≤_, _-_}
 use borrow.Author.Needs.{needs}
 use Rattle.runs_read.proofs.refusals.table.Statement.{statement}

@@ -1,5 +1,4 @@
 -- `runs_write::damage::falls` is safe and ends. The loop counts the vertices down; the measure is the vertex.
--- Assumes nothing.
 use Prim.Native.Nat.{_≤_}
 use borrow.Author.Needs.{needs}
 use Rattle.runs_write.proofs.damage.falls.Statement.{statement}

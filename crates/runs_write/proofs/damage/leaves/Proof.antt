@@ -1,5 +1,4 @@
 -- `runs_write::damage::leaves` is safe and ends. The loop counts the edges down; the measure is the edge.
--- Assumes nothing.
 use Prim.Native.Nat.{_≤_}
 use borrow.Author.Needs.{needs}
 use Rattle.runs_write.proofs.damage.leaves.Statement.{statement}

@@ -1,15 +1,14 @@
 -- `runs_write::damage::rounds` is safe and ends. The loop counts up; the measure is how many rounds are left.
--- Assumes nothing.
 use Prim.Native.Nat.{_≤_, _-_}
 use borrow.Author.Needs.{needs}
 use Rattle.runs_write.proofs.damage.rounds.Statement.{statement}
 use Rattle.runs_write.proofs.damage.rounds.Tie as tie
 
 abbrev Inv-loop : tie.InvT-loop
-Inv-loop tally₀ state₀ round₀ tally state round = round ≤ 2000
+Inv-loop number tally₀ state₀ round₀ tally state round = round ≤ 2000
 
 abbrev μ-loop : tie.MeasureT-loop
-μ-loop tally₀ state₀ round₀ tally state round = 2000 - round
+μ-loop number tally₀ state₀ round₀ tally state round = 2000 - round
 
 new-requires : tie.Need-new-requires Inv-loop μ-loop
 new-requires c κs = search needs
@@ -20,11 +19,8 @@ loop-holds c = search needs
 leap-requires : tie.Need-leap-requires Inv-loop μ-loop
 leap-requires c κs = search needs
 
-is-right-requires : tie.Need-is-right-requires Inv-loop μ-loop
-is-right-requires c κs = search needs
-
-with-requires : tie.Need-with-requires Inv-loop μ-loop
-with-requires c κs = search needs
+judged-requires : tie.Need-judged-requires Inv-loop μ-loop
+judged-requires c κs = search needs
 
 add-round : tie.Need-add-round Inv-loop μ-loop
 add-round c = search needs
@@ -47,8 +43,7 @@ rounds-spec =
     new-requires
     loop-holds
     leap-requires
-    is-right-requires
-    with-requires
+    judged-requires
     add-round
     loop-less
     loop-again

@@ -1,5 +1,4 @@
 -- `runs_write::lengths::combinations` is safe and ends. The loop counts up; the measure is how many combinations are left.
--- Assumes nothing.
 use Prim.Native.Nat.{_≤_, _-_}
 use borrow.Author.Needs.{needs}
 use Rattle.runs_write.proofs.lengths.combinations.Statement.{statement}

@@ -1,5 +1,4 @@
 -- `runs_write::view::is_part` is safe and ends. Nothing has to hold from turn to turn; the measure is what is left of the part.
--- Assumes nothing.
 use Prim.Native.Nat.{_-_}
 use lib.ListN.{length}
 use borrow.Author.Needs.{needs}

@@ -1,5 +1,4 @@
 -- `runs_write::view::random_views` is safe and ends. The loop counts up; the measure is how many rounds are left.
--- Assumes nothing.
 use Prim.Native.Nat.{_≤_, _-_}
 use borrow.Author.Needs.{needs}
 use Rattle.runs_write.proofs.view.random_views.Statement.{statement}

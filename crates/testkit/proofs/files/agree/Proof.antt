@@ -1,5 +1,4 @@
 -- `testkit::files::agree` is safe and ends. The loop counts up to `count`; the measure is what is left of it.
--- Assumes nothing.
 use Prim.Native.Nat.{_≤_, _-_}
 use borrow.Author.Needs.{needs}
 use Rattle.testkit.proofs.files.agree.Statement.{statement}

@@ -1,5 +1,4 @@
 -- `testkit::files::prefix` answers a count that may be lent: it is at most the list's length, so that a prefix of it has that length.
--- Assumes nothing.
 use mathlib.Core.Path.{sym}
 use native.Mathlib.Nat.{le-refl}
 use native.Mathlib.Omega.{arith}

@@ -1,5 +1,4 @@
 -- `testkit::files::put_words` is safe and ends. The loop counts up to the end of `words`, and keeps the length of the file; the measure is what is left of the words.
--- Assumes nothing.
 use Prim.Native.Nat.{_-_}
 use mathlib.Core.Path.{_≡_}
 use lib.ListN.{length}

@@ -1,5 +1,4 @@
 -- `testkit::sample::row_end` is safe and ends. The measure is how many edges are left.
--- Assumes nothing.
 use Prim.Native.Nat.{_-_}
 use borrow.Author.Needs.{needs}
 use Rattle.testkit.proofs.sample.row_end.Statement.{statement}

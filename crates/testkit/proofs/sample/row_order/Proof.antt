@@ -1,5 +1,4 @@
 -- `testkit::sample::row_order` is safe and ends. The loop counts the edges; the measure is how many are left.
--- Assumes nothing.
 use Prim.Native.Nat.{_≤_, _-_}
 use mathlib.Core.Path.{_≡_}
 use lib.ListN.{length}

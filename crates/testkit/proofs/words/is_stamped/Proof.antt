@@ -1,5 +1,4 @@
 -- `testkit::words::is_stamped` is safe and ends. Nothing has to hold from turn to turn; the measure is what is left of the list.
--- Assumes nothing.
 use Prim.Native.Nat.{_-_}
 use lib.ListN.{length}
 use borrow.Author.Needs.{needs}

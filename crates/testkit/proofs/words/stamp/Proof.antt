@@ -1,5 +1,4 @@
 -- `testkit::words::stamp` is safe and ends. The loop counts up to the list's length, which no turn changes; the measure is what is left of it.
--- Assumes nothing.
 use Prim.Native.Nat.{_-_}
 use mathlib.Core.Path.{_≡_}
 use lib.ListN.{length}

@@ -1,4 +1,4 @@
--- `graph::steps::survey` meets its contract: the walk that marks starts from zeros, and zeros laid over what it leaves are zeros laid over
+-- `graph::steps::check_chains` meets its contract: the walk that marks starts from zeros, and zeros laid over what it leaves are zeros laid over
 -- what was there before.
 use borrow.Author.Needs.{needs}
 use native.Mathlib.Omega.{arith}
@@ -9,8 +9,8 @@ use native.Mathlib.Nat.{le-of-eq}
 use lib.ListN.{length, getD, drop, replicate, length-replicate}
 use Rattle.lists.specs.Lists.{overlay}
 use Rattle.lists.proofs.Overlay.{drop-overlay, overlay-kept, overlay-zeros}
-use Rattle.graph.proofs.steps.survey.Statement.{statement}
-use Rattle.graph.proofs.steps.survey.Tie as tie
+use Rattle.graph.proofs.steps.check_chains.Statement.{statement}
+use Rattle.graph.proofs.steps.check_chains.Tie as tie
 
 -- zeros laid over a list that is, past them, as the list was
 cleared-again : (m : ℕ) (marks marked : List ℕ) {zeros : List ℕ} → zeros ≡ overlay (replicate m 0) marks → drop m marked ≡ drop m zeros
@@ -53,6 +53,6 @@ returns c =
       again .clear2 .ensures ∙ cleared-again (start .args .m) (start .args .marks .now) (marked .mark .last .1 .1 .1 .0) (cleared .clear .ensures) (marked .mark .ensures .1),
     )
 
-pub survey-spec : {M : Type 1} → statement M
-survey-spec =
+pub check-chains-spec : {M : Type 1} → statement M
+check-chains-spec =
     tie.close (tie.spec clear-requires mark-requires clear-requires-2 same-length returns)
