@@ -15,7 +15,8 @@ use Rattle.numbers.specs.Refusals.{first}
 use Rattle.numbers.proofs.First.{first-skip}
 use Rattle.lists.specs.Lists.{sumsFrom, reaches, fallsFrom}
 use Rattle.lists.proofs.Or.{or-none, none-or}
-use Rattle.lists.proofs.Tests.{falls-none, falls-self, falls-mono, length-sums, falls-sums, first-sums, last-sums}
+use Rattle.lists.proofs.Rows.{Rising, ends, rises, rise-of, rising-below, rising-step}
+use Rattle.lists.proofs.Tests.{falls-none, length-sums, falls-sums, first-sums, last-sums}
 use Rattle.graph.specs.Graph.{Graph, edges, offsetsOf, targetsOf, rowsOf}
 use Rattle.graph.specs.Read.{outsideSizes}
 use Rattle.graph.specs.Write.{rowCount, malformed}
@@ -151,12 +152,18 @@ row-at (a ∷ []) targets u h = absurd (not-suc-le-zero h)
 row-at (a ∷ b ∷ offsets) targets zero h = refl
 row-at (a ∷ b ∷ offsets) targets (suc u) h = row-at (b ∷ offsets) targets u (le-of-suc-le-suc h)
 
--- each row's two offsets do not fall or pass the end of the targets
+-- offsets in order rise from the first one to the end of the targets
+pub rows-rising : (a : ℕ) (offsets targets : List ℕ) → Rows (a ∷ offsets) targets → Rising (length targets) a offsets
+rows-rising a offsets targets r = rise-of (length targets) a offsets (falls-none 0 a offsets (r .rise) .1) (r .stop)
+
+-- so each row's two offsets do not fall or pass the end of the targets
 offsets-rise : (offsets targets : List ℕ) → Rows offsets targets → (u : ℕ) → u < rowCount offsets → getD offsets u 0 ≤ getD offsets (suc u) 0
-offsets-rise offsets targets r u h = falls-mono 0 offsets u (suc u) (r .rise) (omega arith) (omega (arith, offsets-count offsets (r .some)))
+offsets-rise [] targets r u h = absurd (not-suc-le-zero (r .some))
+offsets-rise (a ∷ offsets) targets r u h = rising-step (rows-rising a offsets targets r) u h
 
 offsets-end : (offsets targets : List ℕ) → Rows offsets targets → (u : ℕ) → u < rowCount offsets → getD offsets (suc u) 0 ≤ length targets
-offsets-end offsets targets r u h = rw (r .stop) at (falls-mono 0 offsets (suc u) (rowCount offsets) (r .rise) h (omega (arith, offsets-count offsets (r .some))))
+offsets-end [] targets r u h = absurd (not-suc-le-zero (r .some))
+offsets-end (a ∷ offsets) targets r u h = rising-below (rows-rising a offsets targets r) (suc u)
 
 -- so the view finds nothing wrong
 in-view : (offsets targets : List ℕ) → Rows offsets targets → (u : ℕ) → u < rowCount offsets → outOfView offsets targets u ≡ false
@@ -214,33 +221,25 @@ row-and-rest a b targets h =
     rw (← rest) (take-append-drop (b - a) (drop a targets))
 
 -- the sums and the rows from a place on
-sums-from : (a : ℕ) (rest targets : List ℕ) → fallsFrom a rest ≡ false → getD (a ∷ rest) (length rest) 0 ≡ length targets
-    → sumsFrom a (map length (rowsOf (a ∷ rest) targets)) ≡ a ∷ rest
+sums-from : (targets : List ℕ) {a : ℕ} {rest : List ℕ} → Rising (length targets) a rest → sumsFrom a (map length (rowsOf (a ∷ rest) targets)) ≡ a ∷ rest
 unfolding rowsOf sumsFrom
-sums-from a [] targets e f = refl
-sums-from a (b ∷ rest) targets e f =
-    let p = falls-none a b rest e in
-    let inside : b ≤ length targets = rw f at (falls-mono b (b ∷ rest) 0 (length rest) (falls-self b rest (p .1)) (omega arith) (omega arith)) in
-    ap (λ (l : List ℕ). a ∷ l) (rw (row-between a b targets (p .0) inside) (sums-from b rest targets (p .1) f))
+sums-from targets (ends e) = refl
+sums-from targets (rises {a} {b} h r) = ap (λ (l : List ℕ). a ∷ l) (rw (row-between a b targets h (rising-below r 0)) (sums-from targets r))
 
-rows-from : (a : ℕ) (rest targets : List ℕ) → fallsFrom a rest ≡ false → getD (a ∷ rest) (length rest) 0 ≡ length targets
-    → flatten (rowsOf (a ∷ rest) targets) ≡ drop a targets
-unfolding rowsOf flatten
-rows-from a [] targets e f = rw (f, drop-length)
-rows-from a (b ∷ rest) targets e f =
-    let p = falls-none a b rest e in
-    rw (rows-from b rest targets (p .1) f) (row-and-rest a b targets (p .0))
+pub rows-from : (targets : List ℕ) {a : ℕ} {rest : List ℕ} → Rising (length targets) a rest → targetsOf (rowsOf (a ∷ rest) targets) ≡ drop a targets
+unfolding rowsOf targetsOf flatten
+rows-from targets (ends e) = rw (e, drop-length)
+rows-from targets (rises {a} {b} h r) = rw (rows-from targets r) (row-and-rest a b targets h)
 
 -- offsets and targets in order are those of their rows
 pub offsets-again : (offsets targets : List ℕ) → Rows offsets targets → offsetsOf (rowsOf offsets targets) ≡ offsets
 unfolding offsetsOf
 offsets-again [] targets r = absurd (not-suc-le-zero (r .some))
-offsets-again (a ∷ offsets) targets r = rw (← (r .start)) (sums-from a offsets targets (falls-none 0 a offsets (r .rise) .1) (r .stop))
+offsets-again (a ∷ offsets) targets r = rw (← (r .start)) (sums-from targets (rows-rising a offsets targets r))
 
 pub targets-again : (offsets targets : List ℕ) → Rows offsets targets → targetsOf (rowsOf offsets targets) ≡ targets
-unfolding targetsOf
 targets-again [] targets r = absurd (not-suc-le-zero (r .some))
-targets-again (a ∷ offsets) targets r = rows-from a offsets targets (falls-none 0 a offsets (r .rise) .1) (r .stop) ∙ rw (r .start)
+targets-again (a ∷ offsets) targets r = rows-from targets (rows-rising a offsets targets r) ∙ rw (r .start)
 
 -- The same for a graph: the view of each of its vertices is its row.
 

@@ -1,6 +1,6 @@
 -- Facts about the encoding of rows: which word stands at each place of their file.
 use mathlib.Core.Path.{_≡_, refl, sym, ap, _∙_, subst}
-use mathlib.Core.List.{List, [], _∷_, _++_, flatten}
+use mathlib.Core.List.{List, [], _∷_, _++_}
 use Prim.Native.Nat.{ℕ, zero, suc, _+_, _*_, _-_, _≤_, _<_}
 use native.Mathlib.Nat.{le-of-suc-le-suc, not-suc-le-zero, le-trans, le-of-eq}
 use native.Mathlib.Numerals.{add-one}
@@ -12,7 +12,7 @@ use Rattle.lists.proofs.Rows.{Rising, ends, rises, rising-below, rising-above, 
 use Rattle.graph.specs.Graph.{Graph, targetsOf, rowsOf}
 use Rattle.graph.specs.Encode.{headOf, headsFrom, rowRecords, recordsFrom, fileWords}
 use Rattle.graph.specs.WriteSteps.{indexAfter}
-use Rattle.graph.proofs.Bridge.{length-rows, row-between}
+use Rattle.graph.proofs.Bridge.{length-rows, row-between, rows-from}
 use Rattle.graph.proofs.EncodeFacts.{length-heads, length-row, length-records}
 
 -- the index is that of equal numbers
@@ -40,10 +40,7 @@ module _ (targets : List ℕ) where
 
   -- the rows have all targets from their first offset on
   length-targets : {a : ℕ} {offsets : List ℕ} → Rising (length targets) a offsets → a + length (targetsOf (rowsOf (a ∷ offsets) targets)) ≡ length targets
-  unfolding rowsOf targetsOf flatten
-  length-targets (ends e) = omega arith
-  length-targets (rises {a} {b} {xs} h r) =
-      rw (length-append (take (b - a) (drop a targets)) (targetsOf (rowsOf (b ∷ xs) targets))) (omega (arith, row-size a b h (rising-below r 0), length-targets r))
+  length-targets {a} r = rw (rows-from targets r, length-drop) (omega (arith, rising-below r 0))
 
   -- the head of vertex u
   head-at : {a : ℕ} {offsets : List ℕ} → Rising (length targets) a offsets → (u : ℕ) → u < length offsets

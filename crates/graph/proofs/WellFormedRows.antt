@@ -7,11 +7,10 @@ use native.Mathlib.Nat.{not-suc-le-zero}
 use native.Mathlib.Numerals.{sub-one}
 use native.Mathlib.Omega.{arith}
 use lib.ListN.{length, getD}
-use Rattle.lists.proofs.Rows.{Rising, rise-of}
-use Rattle.lists.proofs.Tests.{falls-none}
+use Rattle.lists.proofs.Rows.{Rising}
 use Rattle.graph.specs.Write.{malformed, rowCount}
 use Rattle.graph.specs.WriteSteps.{WellFormed}
-use Rattle.graph.proofs.Bridge.{Accepted, accept-rows}
+use Rattle.graph.proofs.Bridge.{Accepted, accept-rows, rows-rising}
 use Rattle.graph.proofs.Encoding.{Written, written-rising}
 
 -- what the steps of writing take for granted
@@ -33,7 +32,7 @@ written-cons a offsets targets is =
     (λ (x : ℕ). Rising (length targets) x offsets → getD (x ∷ offsets) (length offsets) 0 ≡ length targets → Written (x ∷ offsets) targets (length offsets))
     (sym (is .rows .start))
     (written-rising targets offsets)
-    (rise-of (length targets) a offsets (falls-none 0 a offsets (is .rows .rise) .1) (is .rows .stop))
+    (rows-rising a offsets targets (is .rows))
     (is .rows .stop)
 
 written-accepted : (offsets targets : List ℕ) (n : ℕ) → length offsets ≡ n + 1 → Accepted offsets targets → Written offsets targets n

@@ -10,9 +10,8 @@ use native.Mathlib.Omega.{arith}
 use lib.Dec.{leb, ltb}
 use lib.ListN.{length, getD, take, drop, length-take, drop-of-length-le, List·getD-append}
 use lib.Seq.{drop-cons, getD-append-add}
-use borrow.Author.Tests.{ltb-false}
 use Rattle.lists.specs.Lists.{reaches, fallsFrom}
-use Rattle.lists.proofs.Or.{or-none}
+use Rattle.lists.proofs.Tests.{falls-none}
 
 -- from a on, the numbers of the list never fall, and the last of them all is m
 pub data Rising (m : ℕ) : ℕ → List ℕ → Type 0 where
@@ -21,9 +20,8 @@ pub data Rising (m : ℕ) : ℕ → List ℕ → Type 0 where
 
 -- a list rises where the test for a fall is false
 pub rise-of : (m a : ℕ) (xs : List ℕ) → fallsFrom a xs ≡ false → getD (a ∷ xs) (length xs) 0 ≡ m → Rising m a xs
-unfolding fallsFrom
 rise-of m a [] h e = ends e
-rise-of m a (b ∷ xs) h e = let p = or-none (ltb b a) (fallsFrom b xs) h in rises (ltb-false b a (p .0)) (rise-of m b xs (p .1) e)
+rise-of m a (b ∷ xs) h e = let p = falls-none a b xs h in rises (p .0) (rise-of m b xs (p .1) e)
 
 -- no number of it is above m
 pub rising-below : {m a : ℕ} {xs : List ℕ} → Rising m a xs → (i : ℕ) → getD (a ∷ xs) i 0 ≤ m

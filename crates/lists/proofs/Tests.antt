@@ -293,28 +293,6 @@ pub falls-none : (x y : ℕ) (l : List ℕ) → fallsFrom x (y ∷ l) ≡ false 
 unfolding fallsFrom
 falls-none x y l e = let p = or-none (ltb y x) (fallsFrom y l) e in (ltb-false y x (p .0), p .1)
 
--- a list that is judged against its own first number
-pub falls-self : (x : ℕ) (l : List ℕ) → fallsFrom x l ≡ false → fallsFrom x (x ∷ l) ≡ false
-unfolding fallsFrom
-falls-self x l e = none-or (ltb x x) (fallsFrom x l) (le-ltb x x (omega arith)) e
-
--- each number is at least the one that the list is judged against
-pub falls-start : (x : ℕ) (l : List ℕ) (j : ℕ) → fallsFrom x l ≡ false → j < length l → x ≤ getD l j 0
-falls-start x [] j e h = absurd (not-suc-le-zero h)
-falls-start x (y ∷ l) zero e h = falls-none x y l e .0
-falls-start x (y ∷ l) (suc j) e h =
-    let p = falls-none x y l e in
-    let k = falls-start y l j (p .1) (le-of-suc-le-suc h) in
-    omega arith
-
--- and at least each one before it
-pub falls-mono : (x : ℕ) (l : List ℕ) (i j : ℕ) → fallsFrom x l ≡ false → i ≤ j → j < length l → getD l i 0 ≤ getD l j 0
-falls-mono x [] i j e h k = absurd (not-suc-le-zero k)
-falls-mono x (y ∷ l) zero zero e h k = omega arith
-falls-mono x (y ∷ l) zero (suc j) e h k = falls-start y l j (falls-none x y l e .1) (le-of-suc-le-suc k)
-falls-mono x (y ∷ l) (suc i) zero e h k = absurd (not-suc-le-zero h)
-falls-mono x (y ∷ l) (suc i) (suc j) e h k = falls-mono y l i j (falls-none x y l e .1) (le-of-suc-le-suc h) (le-of-suc-le-suc k)
-
 -- Running sums and rows.
 
 pub length-sums : (a : ℕ) (l : List ℕ) → length (sumsFrom a l) ≡ suc (length l)
