@@ -1,4 +1,4 @@
--- Lists of numbers: overlay, ranges, running sums, rows laid end to end, and tests that compute. No vertex, edge or byte here.
+-- Lists of numbers: one laid over another, consecutive numbers, running sums, and tests that compute. No vertex, edge or byte here.
 use Prim.Native.Nat.{ℕ, zero, suc, _+_}
 use mathlib.Core.Bool.{Bool, false, not, _||_}
 use mathlib.Core.List.{List, [], _∷_, _++_}
