@@ -125,22 +125,10 @@ fn check_chains(file: &[u8], n: usize, m: usize, marks: &mut [u16]) -> usize
     ensures { λ r. ⌜ r ≡ first (chainRefusals (now (file .entry))) ⌝ }
     ensures { λ r. ⌜ now (marks .exit) ≡ overlay (replicate m 0) (now (marks .entry)) ⌝ }
 {
-    clear(marks, m);
+    lists::clear(marks, m);
     let number = mark(file, n, m, marks);
-    clear(marks, m);
+    lists::clear(marks, m);
     number
-}
-
-// Sets the first m places to 0.
-fn clear(marks: &mut [u16], m: usize)
-    requires { ⌜ m ≤ length (now marks) ⌝ }
-    ensures { λ _. ⌜ now (marks .exit) ≡ overlay (replicate m 0) (now (marks .entry)) ⌝ }
-{
-    let mut i = 0;
-    while i < m {
-        marks[i] = 0;
-        i += 1;
-    }
 }
 
 // Follows every chain and marks each record it meets: 5 at a record that is marked already, 6 where

@@ -4,3 +4,4 @@ pub mod Overlay
 pub mod Parts
 pub mod Rows
 pub mod Tests
+pub mod Sums

@@ -43,3 +43,8 @@ reaches limit (x ∷ xs) = leb limit x || reaches limit xs
 unfoldable pub fallsFrom : ℕ → List ℕ → Bool
 fallsFrom x [] = false
 fallsFrom x (y ∷ ys) = ltb y x || fallsFrom y ys
+
+-- the sum of f over the list
+unfoldable pub sumOf : {A : Type 0} → (A → ℕ) → List A → ℕ
+sumOf f [] = 0
+sumOf f (x ∷ xs) = f x + sumOf f xs

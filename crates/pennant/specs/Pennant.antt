@@ -1,0 +1,30 @@
+-- Pennants, as in 000, section 4: the tree below a root, the slot of a backbone, pennant union and pennant split.
+use Prim.Native.Nat.{ℕ}
+
+-- "a complete binary tree", or none (NULL): a number over its two children
+pub data Tree : Type 0 where
+  null : Tree
+  node : ℕ → Tree → Tree → Tree
+
+-- an entry of the backbone: "either a null pointer or a pointer to a pennant". "The root of the tree has only a left child": a number over one tree
+pub data Slot : Type 0 where
+  gap : Slot
+  tip : ℕ → Tree → Slot
+
+-- PENNANT-UNION(x, y): "y.right = x.left, x.left = y, return x"
+unfoldable pub pennantUnion : Slot → Slot → Slot
+pennantUnion gap y = y
+pennantUnion (tip a x) gap = tip a x
+pennantUnion (tip a x) (tip b y) = tip a (node b y x)
+
+-- PENNANT-SPLIT(x), what x is afterwards: "y = x.left, x.left = y.right"
+unfoldable pub pennantKept : Slot → Slot
+pennantKept gap = gap
+pennantKept (tip a null) = tip a null
+pennantKept (tip a (node b y x)) = tip a x
+
+-- PENNANT-SPLIT(x), what it returns: "y = x.left, .. y.right = NULL, return y"
+unfoldable pub pennantHalf : Slot → Slot
+pennantHalf gap = gap
+pennantHalf (tip a null) = gap
+pennantHalf (tip a (node b y x)) = tip b y
