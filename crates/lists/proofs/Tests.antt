@@ -267,6 +267,13 @@ elem-reaches limit [] h = refl
 elem-reaches limit (y ∷ l) h =
     none-or (leb limit y) (reaches limit l) (lt-leb limit y (h y (elem-first y l))) (elem-reaches limit l (λ x e. h x (elem-later x y l e)))
 
+-- so is the number at each place of the list
+pub reaches-at : (limit : ℕ) (l : List ℕ) (i : ℕ) → reaches limit l ≡ false → i < length l → getD l i 0 < limit
+unfolding reaches
+reaches-at limit [] i e h = absurd (omega arith)
+reaches-at limit (x ∷ l) zero e h = leb-false limit x (or-none (leb limit x) (reaches limit l) e .0)
+reaches-at limit (x ∷ l) (suc i) e h = reaches-at limit l i (or-none (leb limit x) (reaches limit l) e .1) (omega arith)
+
 -- a list under a limit is under each greater one
 pub reaches-weaken : (small large : ℕ) (l : List ℕ) → small ≤ large → reaches small l ≡ false → reaches large l ≡ false
 reaches-weaken small large l h e = elem-reaches large l (λ x f. let k = reaches-elem small l e x f in omega arith)

@@ -5,11 +5,11 @@ use mathlib.Core.List.{[], _∷_, _++_, map}
 use Prim.Native.Nat.{ℕ, zero, suc, _≤_}
 use native.Mathlib.Omega.{arith}
 use lib.ListN.{length, getD, replicate, length-map, List·getD-map}
-use borrow.Author.Tests.{eq-eqb}
 use Rattle.pennant.specs.Pennant.{Tree, null, node, Slot, gap, tip, pennantUnion, pennantKept, pennantHalf}
 use Rattle.pennant.specs.Bag.{Bag, slotCount, emptyBag, insertPennant, bagInsert, insertFilled, adderSum, adderCarry, addFrom, bagUnion}
 use Rattle.pennant.specs.Bag.{splitFirst, splitSecond, spread, takeFrom, takeRest, takenNumber, isGap, isEmpty, atLeastTwo}
 use Rattle.pennant.specs.Held.{weighTree, weighSlot, weigh, only, count, Complete, Pennant, ShapedFrom, Shaped, mapTree, mapSlot, mapBag}
+use Rattle.pennant.proofs.Weights.{only-self}
 
 -- Pennants.
 
@@ -233,22 +233,18 @@ shaped-map g s h = shaped-map-from g 0 s h
 
 -- Two functions that agree on the numbers held.
 
--- a number counts once in its own place
-once : (a : ℕ) → only a a ≡ 1
-once a = rw (eq-eqb a a refl)
-
 -- on a tree
 map-same-tree : (g h : ℕ → ℕ) (t : Tree) → ((i : ℕ) → 1 ≤ weighTree (only i) t → g i ≡ h i) → mapTree g t ≡ mapTree h t
 unfolding weighTree mapTree
 map-same-tree g h null e = refl
 map-same-tree g h (node a l r) e =
-    rw (e a (omega (arith, once a)), map-same-tree g h l (λ i k. e i (omega arith)), map-same-tree g h r (λ i k. e i (omega arith)))
+    rw (e a (omega (arith, only-self a)), map-same-tree g h l (λ i k. e i (omega arith)), map-same-tree g h r (λ i k. e i (omega arith)))
 
 -- on a slot
 map-same-slot : (g h : ℕ → ℕ) (x : Slot) → ((i : ℕ) → 1 ≤ weighSlot (only i) x → g i ≡ h i) → mapSlot g x ≡ mapSlot h x
 unfolding weighSlot mapSlot
 map-same-slot g h gap e = refl
-map-same-slot g h (tip a t) e = rw (e a (omega (arith, once a)), map-same-tree g h t (λ i k. e i (omega arith)))
+map-same-slot g h (tip a t) e = rw (e a (omega (arith, only-self a)), map-same-tree g h t (λ i k. e i (omega arith)))
 
 -- on a bag
 pub map-same : (g h : ℕ → ℕ) (s : Bag) → ((i : ℕ) → 1 ≤ count i s → g i ≡ h i) → mapBag g s ≡ mapBag h s

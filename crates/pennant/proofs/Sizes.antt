@@ -180,8 +180,8 @@ unfolding splitFirst weigh
 length-first [] h = refl
 length-first (y ∷ s) h =
     let rest = map pennantKept s ++ gap ∷ [] in
-    let room : weighSlot one y + weigh one rest < 2 ^ (0 + length rest) =
-    rw (length-down pennantKept s, zero-add) (omega (arith, size-within (y ∷ s) h, weigh-end one (map pennantKept s), weigh-halves one s)) in
+    let fits : weighSlot one y + weigh one rest < 2 ^ suc (length s) = omega (arith, size-within (y ∷ s) h, weigh-end one (map pennantKept s), weigh-halves one s) in
+    let room : weighSlot one y + weigh one rest < 2 ^ (0 + length rest) = rw (length-down pennantKept s, zero-add) fits in
     length-insert-filled 0 y rest (h .0) (shaped-kept 0 s (h .1)) room ∙ length-down pennantKept s
 
 -- what a split returns has as many slots

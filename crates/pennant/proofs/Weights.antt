@@ -1,8 +1,8 @@
 -- What each operation on pennants and bags does to a weight: the sum of any f over the numbers held is kept, so no number is lost and
 -- none is made. No shape is asked for.
 use mathlib.Core.Path.{_≡_, refl, sym, _∙_}
-use mathlib.Core.Bool.{true, false, true≢false}
-use mathlib.Core.List.{List, [], _∷_, _++_, map}
+use mathlib.Core.Bool.{Bool, true, false, cond, true≢false}
+use mathlib.Core.List.{[], _∷_, _++_, map}
 use Prim.Native.Nat.{ℕ, zero, suc, _+_, _≤_}
 use native.Mathlib.Nat.{zero-add}
 use native.Mathlib.Omega.{arith}
@@ -14,7 +14,7 @@ use Rattle.lists.proofs.Sums.{sum-append}
 use Rattle.pennant.specs.Pennant.{Tree, null, node, Slot, gap, tip, pennantUnion, pennantKept, pennantHalf}
 use Rattle.pennant.specs.Bag.{Bag, slotCount, emptyBag, insertPennant, bagInsert, insertFilled, adderSum, adderCarry, addFrom, bagUnion}
 use Rattle.pennant.specs.Bag.{splitFirst, splitSecond, takenNumber, isEmpty}
-use Rattle.pennant.specs.Held.{treeItems, slotItems, items, weighTree, weighSlot, weigh, one, size, count}
+use Rattle.pennant.specs.Held.{treeItems, slotItems, items, weighTree, weighSlot, weigh, one, only, size, count}
 
 -- Pennants.
 
@@ -135,7 +135,7 @@ weigh-tree-items f null = refl
 weigh-tree-items f (node a l r) = omega (arith, weigh-tree-items f l, weigh-tree-items f r, sum-append f (treeItems l) (treeItems r))
 
 -- and so does a slot
-weigh-slot-items : (f : ℕ → ℕ) (x : Slot) → weighSlot f x ≡ sumOf f (slotItems x)
+pub weigh-slot-items : (f : ℕ → ℕ) (x : Slot) → weighSlot f x ≡ sumOf f (slotItems x)
 unfolding weighSlot slotItems sumOf
 weigh-slot-items f gap = refl
 weigh-slot-items f (tip a t) = omega (arith, weigh-tree-items f t)
@@ -145,6 +145,46 @@ pub weigh-items : (f : ℕ → ℕ) (s : Bag) → weigh f s ≡ sumOf f (items s
 unfolding weigh items sumOf
 weigh-items f [] = refl
 weigh-items f (x ∷ s) = omega (arith, weigh-slot-items f x, weigh-items f s, sum-append f (slotItems x) (items s))
+
+-- Two weights over one bag.
+
+-- a number counts once in its own place
+pub only-self : (v : ℕ) → only v v ≡ 1
+only-self v = rw (eq-eqb v v refl)
+
+-- and at most once in any
+pub only-within : (v x : ℕ) → only v x ≤ 1
+only-within v x = go (eqb x v)
+  where
+    go : (b : Bool) → cond b 1 0 ≤ 1
+    go true = omega arith
+    go false = omega arith
+
+-- a tree, where the second weight is nowhere less on the numbers held
+mono-tree : (f g : ℕ → ℕ) (t : Tree) → ((i : ℕ) → 1 ≤ weighTree (only i) t → f i ≤ g i) → weighTree f t ≤ weighTree g t
+unfolding weighTree
+mono-tree f g null h = omega arith
+mono-tree f g (node a l r) h =
+    let root = h a (omega (arith, only-self a)) in
+    omega (arith, mono-tree f g l (λ i k. h i (omega arith)), mono-tree f g r (λ i k. h i (omega arith)))
+
+-- a slot
+mono-slot : (f g : ℕ → ℕ) (x : Slot) → ((i : ℕ) → 1 ≤ weighSlot (only i) x → f i ≤ g i) → weighSlot f x ≤ weighSlot g x
+unfolding weighSlot
+mono-slot f g gap h = omega arith
+mono-slot f g (tip a t) h =
+    let root = h a (omega (arith, only-self a)) in
+    omega (arith, mono-tree f g t (λ i k. h i (omega arith)))
+
+-- a bag weighs no less by a weight that is nowhere less on the numbers held
+pub weigh-mono : (f g : ℕ → ℕ) (s : Bag) → ((i : ℕ) → 1 ≤ count i s → f i ≤ g i) → weigh f s ≤ weigh g s
+unfolding weigh
+weigh-mono f g [] h = omega arith
+weigh-mono f g (x ∷ s) h = omega (arith, mono-slot f g x (λ i k. h i (omega arith)), weigh-mono f g s (λ i k. h i (omega arith)))
+
+-- no number is held more often than numbers are held
+pub count-within : (v : ℕ) (s : Bag) → count v s ≤ size s
+count-within v s = weigh-mono (only v) one s (λ i k. only-within v i)
 
 -- Empty or not.
 
@@ -175,4 +215,4 @@ pub taken-held : (s : Bag) → isEmpty s ≡ false → 1 ≤ count (takenNumber 
 unfolding isEmpty takenNumber weigh weighSlot
 taken-held [] e = absurd (true≢false e)
 taken-held (gap ∷ s) e = omega (arith, taken-held s e)
-taken-held (tip a t ∷ s) e = rw (eq-eqb a a refl) (omega arith)
+taken-held (tip a t ∷ s) e = omega (arith, only-self a)

@@ -4,7 +4,7 @@ use Prim.Native.Nat.{ℕ, zero, suc}
 use mathlib.Core.Bool.{Bool, true, false, not, _&&_}
 use mathlib.Core.List.{List, [], _∷_, _++_, map}
 use lib.ListN.{replicate}
-use Rattle.pennant.specs.Pennant.{Tree, null, node, Slot, gap, tip, pennantUnion, pennantKept, pennantHalf}
+use Rattle.pennant.specs.Pennant.{null, Slot, gap, tip, pennantUnion, pennantKept, pennantHalf}
 
 -- "a backbone of 16 slots"
 abbrev pub slotCount : ℕ

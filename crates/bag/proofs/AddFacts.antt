@@ -1,0 +1,123 @@
+-- The full adder on the lists: the table's rule, over all eight rows.
+use Prim.Native.Nat.{ℕ, zero, suc, _+_, _*_, _≤_, _<_}
+use native.Mathlib.Omega.{arith}
+use mathlib.Core.Path.{_≡_, refl}
+use mathlib.Core.List.{List, [], _∷_}
+use lib.ListN.{length, getD, set}
+use Rattle.lists.specs.Lists.{sumOf, reaches}
+use Rattle.lists.proofs.Tests.{reaches-at}
+use Rattle.pennant.specs.Bag.{adderSum, adderCarry}
+use Rattle.bag.specs.Nodes.{pennantAt}
+use Rattle.bag.specs.Adder.{bit, rowOf, term, adderTable}
+use Rattle.bag.specs.Steps.{linkedLeft, linkedRight, Pennants, Added}
+use Rattle.bag.proofs.Only.{in-pool-once}
+use Rattle.bag.proofs.Kept.{pennant-kept}
+use Rattle.bag.proofs.Pairs.{link-pennant, link-kept}
+
+-- what the row of x, y and z has in a column
+abbrev pub columnOf : ℕ → ℕ → ℕ → ℕ → ℕ
+columnOf column x y z = term x y z (getD adderTable (3 * rowOf x y z + column) 0)
+
+-- a pennant is there or not
+pub bit-most : (x : ℕ) → bit x ≤ 1
+unfolding bit
+bit-most zero = omega arith
+bit-most (suc x) = omega arith
+
+-- a node is there
+pub bit-some : (x : ℕ) → (x ≡ 0 → ⊥) → 1 ≡ bit x
+unfolding bit
+bit-some zero h = absurd (h refl)
+bit-some (suc x) h = refl
+
+-- there are eight rows
+pub row-most : (x y z : ℕ) → rowOf x y z < 8
+unfolding rowOf
+row-most x y z = omega (arith, bit-most x, bit-most y, bit-most z)
+
+-- an entry stands for one of four
+pub entry-within : (i : ℕ) → i < 24 → getD adderTable i 0 < 4
+unfolding reaches
+entry-within i h = reaches-at 4 adderTable i refl h
+
+-- which is below any bound that three are, if 0 is
+pub term-below : (x y z entry limit : ℕ) → entry < 4 → x < limit → y < limit → z < limit → term x y z entry < limit
+term-below x y z zero limit h a b c = omega arith
+term-below x y z (suc zero) limit h a b c = a
+term-below x y z (suc (suc zero)) limit h a b c = b
+term-below x y z (suc (suc (suc zero))) limit h a b c = c
+term-below x y z (suc (suc (suc (suc e)))) limit h a b c = absurd (omega arith)
+
+-- so an entry of a row is below what the three are
+pub entry-below : (x y z row column limit : ℕ) → row < 8 → column < 3 → x < limit → y < limit → z < limit → term x y z (getD adderTable (3 * row + column) 0) < limit
+entry-below x y z row column limit h g a b c = term-below x y z (getD adderTable (3 * row + column) 0) limit (entry-within (3 * row + column) (omega arith)) a b c
+
+-- a link where there is a root
+pub linked-some : (x y : ℕ) (left right : List ℕ) {left′ right′ : List ℕ} → (x ≡ 0 → ⊥) → left′ ≡ set left x y → right′ ≡ set right y (getD left x 0)
+    → (left′ ≡ linkedLeft x y left) × (right′ ≡ linkedRight x y left right)
+unfolding linkedLeft linkedRight
+linked-some zero y left right h a b = absurd (h refl)
+linked-some (suc x) y left right h a b = (a, b)
+
+-- and where there is none
+pub linked-none : (x y : ℕ) (left right : List ℕ) → x ≡ 0 → (left ≡ linkedLeft x y left) × (right ≡ linkedRight x y left right)
+unfolding linkedLeft linkedRight
+linked-none zero y left right h = (refl, refl)
+linked-none (suc x) y left right h = absurd (omega arith)
+
+some : (x : ℕ) → suc x ≡ 0 → ⊥
+some x e = omega arith
+
+module _ (left right : List ℕ) (k : ℕ) where
+  pair-xy : (x y z : ℕ) → Pennants left right k (x ∷ y ∷ z ∷ []) → Pennants left right k (x ∷ y ∷ [])
+  unfolding sumOf
+  pair-xy x y z p = record { wide = p .wide; apart = λ i. omega (arith, p .apart i) }
+
+  pair-xz : (x y z : ℕ) → Pennants left right k (x ∷ y ∷ z ∷ []) → Pennants left right k (x ∷ z ∷ [])
+  unfolding sumOf
+  pair-xz x y z p = record { wide = p .wide; apart = λ i. omega (arith, p .apart i) }
+
+  pair-yz : (x y z : ℕ) → Pennants left right k (x ∷ y ∷ z ∷ []) → Pennants left right k (y ∷ z ∷ [])
+  unfolding sumOf
+  pair-yz x y z p = record { wide = p .wide; apart = λ i. omega (arith, p .apart i) }
+
+  -- each row of the table is 000's
+  pub add-rows : (x y z : ℕ) → Pennants left right k (x ∷ y ∷ z ∷ [])
+      → Added left right k x y z (linkedLeft (columnOf 1 x y z) (columnOf 2 x y z) left) (linkedRight (columnOf 1 x y z) (columnOf 2 x y z) left right) (columnOf 0 x y z) (columnOf 1 x y z)
+  unfolding bit rowOf linkedLeft linkedRight pennantAt adderSum adderCarry sumOf
+  add-rows zero zero zero p = record { sum = refl; carried = refl; kept-left = λ i c. refl; kept-right = λ i c. refl }
+  add-rows (suc x) zero zero p = record { sum = refl; carried = refl; kept-left = λ i c. refl; kept-right = λ i c. refl }
+  add-rows zero (suc y) zero p = record { sum = refl; carried = refl; kept-left = λ i c. refl; kept-right = λ i c. refl }
+  add-rows zero zero (suc z) p = record { sum = refl; carried = refl; kept-left = λ i c. refl; kept-right = λ i c. refl }
+  add-rows (suc x) (suc y) zero p = record {
+    sum = refl;
+    carried = link-pennant left right k (suc x) (suc y) (some x) (some y) (pair-xy (suc x) (suc y) zero p);
+    kept-left = λ i c. link-kept left right k (suc x) (suc y) i (some x) (some y) (omega arith) .0;
+    kept-right = λ i c. link-kept left right k (suc x) (suc y) i (some x) (some y) (omega arith) .1;
+  }
+  add-rows (suc x) zero (suc z) p = record {
+    sum = refl;
+    carried = link-pennant left right k (suc x) (suc z) (some x) (some z) (pair-xz (suc x) zero (suc z) p);
+    kept-left = λ i c. link-kept left right k (suc x) (suc z) i (some x) (some z) (omega arith) .0;
+    kept-right = λ i c. link-kept left right k (suc x) (suc z) i (some x) (some z) (omega arith) .1;
+  }
+  add-rows zero (suc y) (suc z) p = record {
+    sum = refl;
+    carried = link-pennant left right k (suc y) (suc z) (some y) (some z) (pair-yz zero (suc y) (suc z) p);
+    kept-left = λ i c. link-kept left right k (suc y) (suc z) i (some y) (some z) (omega arith) .0;
+    kept-right = λ i c. link-kept left right k (suc y) (suc z) i (some y) (some z) (omega arith) .1;
+  }
+  add-rows (suc x) (suc y) (suc z) p = record {
+    sum =
+        pennant-kept left right (set left (suc y) (suc z)) (set right (suc z) (getD left (suc y) 0)) k (suc x)
+        (λ i c. link-kept left right k (suc y) (suc z) i (some y) (some z) (omega (arith, c, p .apart i, in-pool-once (length left) i)));
+    carried = link-pennant left right k (suc y) (suc z) (some y) (some z) (pair-yz (suc x) (suc y) (suc z) p);
+    kept-left = λ i c. link-kept left right k (suc y) (suc z) i (some y) (some z) (omega arith) .0;
+    kept-right = λ i c. link-kept left right k (suc y) (suc z) i (some y) (some z) (omega arith) .1;
+  }
+
+  -- the lists and the two slots as the code leaves them
+  pub add-whole : (x y z : ℕ) {left′ right′ : List ℕ} {slot carry : ℕ} → Pennants left right k (x ∷ y ∷ z ∷ [])
+      → left′ ≡ linkedLeft (columnOf 1 x y z) (columnOf 2 x y z) left → right′ ≡ linkedRight (columnOf 1 x y z) (columnOf 2 x y z) left right
+      → slot ≡ columnOf 0 x y z → carry ≡ columnOf 1 x y z → Added left right k x y z left′ right′ slot carry
+  add-whole x y z p l r s c = rw (l, r, s, c) (add-rows x y z p)

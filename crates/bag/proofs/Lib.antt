@@ -1,0 +1,15 @@
+-- Facts about bags on node lists that the proofs of the crate's functions go by, and what crates above use (Family).
+pub mod Only
+pub mod Kept
+pub mod Few
+pub mod Pairs
+pub mod Backbone
+pub mod AddFacts
+pub mod PlaceFacts
+pub mod UnionFacts
+pub mod SpillFacts
+pub mod ShiftFacts
+pub mod FilledFacts
+pub mod Free
+pub mod Family
+pub mod Outcomes

@@ -1,0 +1,83 @@
+use Rattle.bag.proofs.Outcomes.{taken-within, took}
+use Rattle.bag.proofs.FilledFacts.{lowest}
+use mathlib.Core.Path.{_≡_}
+use lib.ListN.{length}
+use native.Mathlib.Omega.{arith}
+use borrow.Author.Needs.{needs}
+use Rattle.bag.proofs.operations.take.Statement.{statement}
+use Rattle.bag.proofs.operations.take.Tie as tie
+
+first-filled-requires : tie.Need-first-filled-requires
+first-filled-requires c κs = search needs
+
+mul-root : tie.Need-mul-root
+mul-root c =
+    let start = c .before .before .before .before .before in
+    let a = start .args in
+    let found = c .first-filled in
+    let long : length (a .bag .slots) ≡ 16 = search needs in
+    let low = lowest (a .left .now) (a .right .now) (a .bag .slots) (found .ensures) (start .pre .1 .1) in
+    omega (arith, low .within)
+
+array-read-root : tie.Need-array-read-root
+array-read-root c =
+    let start = c .before .before .before .before .before in
+    let a = start .args in
+    let found = c .first-filled in
+    let long : length (a .bag .slots) ≡ 16 = search needs in
+    let low = lowest (a .left .now) (a .right .now) (a .bag .slots) (found .ensures) (start .pre .1 .1) in
+    omega (arith, low .within)
+
+spill-requires : tie.Need-spill-requires
+spill-requires c κs =
+    let start = c .before .before .before .before .before .before in
+    let a = start .args in
+    let found = c .before .first-filled in
+    let long : length (a .bag .slots) ≡ 16 = search needs in
+    let low = lowest (a .left .now) (a .right .now) (a .bag .slots) (found .ensures) (start .pre .1 .1) in
+    (start .pre .0, (omega (arith, low .within), low .some))
+
+release-requires : tie.Need-release-requires
+release-requires c κs =
+    let start = c .before .before .before .before .before .before .before .before .before .before in
+    let a = start .args in
+    let found = c .before .before .before .before .before .first-filled in
+    let long : length (a .bag .slots) ≡ 16 = search needs in
+    let low = lowest (a .left .now) (a .right .now) (a .bag .slots) (found .ensures) (start .pre .1 .1) in
+    omega (arith, taken-within (a .left .now) (a .right .now) (a .bag .slots) (start .pre .0) long (start .pre .1 .1) (found .result) low, c .before .before .before .spill .kept .1 .1 .0)
+
+at-requires : tie.Need-at-requires
+at-requires c κs =
+    let start = c .before .before .before .before .before .before .before .before .before .before .before .before .before in
+    let a = start .args in
+    let found = c .before .before .before .before .before .before .before .before .first-filled in
+    let long : length (a .bag .slots) ≡ 16 = search needs in
+    let low = lowest (a .left .now) (a .right .now) (a .bag .slots) (found .ensures) (start .pre .1 .1) in
+    omega (arith, taken-within (a .left .now) (a .right .now) (a .bag .slots) (start .pre .0) long (start .pre .1 .1) (found .result) low, start .pre .1 .0)
+
+same-length : tie.Need-same-length
+same-length c = search needs
+
+returns : tie.Need-returns
+returns c =
+    let start = c .before .before .before .before .before .before .before .before .before .before .before .before .before .before in
+    let a = start .args in
+    let found = c .before .before .before .before .before .before .before .before .before .first-filled in
+    let long : length (a .bag .slots) ≡ 16 = search needs in
+    let low = lowest (a .left .now) (a .right .now) (a .bag .slots) (found .ensures) (start .pre .1 .1) in
+    let spilled = c .before .before .before .before .before .before .before .spill in
+    took (a .left .now) (a .right .now) (a .bag .slots) (start .pre .0) long (start .pre .1 .1) (found .result) low (spilled .last .1 .1 .0) (spilled .result .slots) (spilled .ensures) (spilled .kept .1 .1 .0)
+    (a .number .now) (c .before .before .before .release .ensures) (c .at .ensures)
+
+pub take-spec : {M : Type 1} → statement M
+take-spec =
+    tie.close
+    (tie.spec
+    first-filled-requires
+    mul-root
+    array-read-root
+    spill-requires
+    release-requires
+    at-requires
+    same-length
+    returns)

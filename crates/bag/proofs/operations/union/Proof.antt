@@ -1,0 +1,109 @@
+use Rattle.bag.proofs.Outcomes.{united}
+use Rattle.bag.proofs.UnionFacts.{uniting-slot, uniting-other, uniting-carry}
+use mathlib.Core.Path.{_≡_}
+use lib.ListN.{length}
+use native.Mathlib.Omega.{arith}
+use Rattle.bag.proofs.UnionFacts.{Uniting, uniting-start, uniting-three, uniting-step, uniting-done}
+use Prim.Native.Nat.{_-_}
+use borrow.Author.Needs.{needs}
+use Rattle.bag.proofs.operations.union.Statement.{statement}
+use Rattle.bag.proofs.operations.union.Tie as tie
+
+abbrev Inv-loop : tie.InvT-loop
+Inv-loop left₀ right₀ slots₀ others carry₀ k₀ left right slots carry k = Uniting left₀ right₀ slots₀ others left right slots carry k
+
+abbrev μ-loop : tie.MeasureT-loop
+μ-loop left₀ right₀ slots₀ others carry₀ k₀ left right slots carry k = 16 - k
+
+loop-holds : tie.Need-loop-holds Inv-loop μ-loop
+loop-holds c =
+    let a = c .before .before .before .before .args in
+    uniting-start (a .left .now) (a .right .now) (a .a .slots) (a .b .slots) (search needs)
+
+mul-add : tie.Need-mul-add Inv-loop μ-loop
+mul-add c = search needs
+
+array-read-add : tie.Need-array-read-add Inv-loop μ-loop
+array-read-add c = search needs
+
+mul-add-2 : tie.Need-mul-add-2 Inv-loop μ-loop
+mul-add-2 c = search needs
+
+array-read-add-2 : tie.Need-array-read-add-2 Inv-loop μ-loop
+array-read-add-2 c = search needs
+
+add-requires : tie.Need-add-requires Inv-loop μ-loop
+add-requires c κs =
+    let at-loop = c .before .before .before in
+    let start = at-loop .before .before .before .before .before in
+    let a = start .args in
+    let now = at-loop .loop in
+    let long : length (a .b .slots) ≡ 16 = search needs in
+    let test = c .before .before .loop-test .taken in (
+      uniting-slot (a .left .now) (a .right .now) (a .a .slots) (a .b .slots) (start .pre) long (now .left) (now .right) (now .slots) (now .carry) (now .k) (now .inv) test,
+      (
+        uniting-other (a .left .now) (a .right .now) (a .a .slots) (a .b .slots) (start .pre) long (now .left) (now .right) (now .slots) (now .carry) (now .k) (now .inv) test,
+        (uniting-carry (a .left .now) (a .right .now) (a .a .slots) (a .b .slots) (start .pre) long (now .left) (now .right) (now .slots) (now .carry) (now .k) (now .inv) test, omega (arith, start .pre .wide, now .inv .left-length, now .inv .right-length)),
+      ),
+    )
+
+mul-slots : tie.Need-mul-slots Inv-loop μ-loop
+mul-slots c = search needs
+
+array-write-slots : tie.Need-array-write-slots Inv-loop μ-loop
+array-write-slots c = search needs
+
+add-k : tie.Need-add-k Inv-loop μ-loop
+add-k c = search needs
+
+loop-less : tie.Need-loop-less Inv-loop μ-loop
+loop-less c = search needs
+
+loop-again : tie.Need-loop-again Inv-loop μ-loop
+loop-again c =
+    let at-loop = c .before .before .before .before .before .before .before .before in
+    let start = at-loop .before .before .before .before .before in
+    let a = start .args in
+    let now = at-loop .loop in
+    let long : length (a .b .slots) ≡ 16 = search needs in
+    let test = c .before .before .before .before .before .before .before .loop-test .taken in
+    let added = c .before .before .before .before .add in
+    uniting-step (a .left .now) (a .right .now) (a .a .slots) (a .b .slots) (start .pre) long (now .left) (now .right) (now .slots) (now .carry) (now .k) (now .inv) test (added .last .1 .1 .1 .0) (added .last .1 .1 .1 .1 .0) (added .result .slot) (added .result .carry)
+    (added .ensures (now .k) (uniting-three (a .left .now) (a .right .now) (a .a .slots) (a .b .slots) (start .pre) long (now .left) (now .right) (now .slots) (now .carry) (now .k) (now .inv) test)) (added .kept .1 .1 .1 .0) (added .kept .1 .1 .1 .1 .0)
+
+same-length : tie.Need-same-length Inv-loop μ-loop
+same-length c = search needs
+
+same-length-2 : tie.Need-same-length-2 Inv-loop μ-loop
+same-length-2 c = search needs
+
+returns : tie.Need-returns Inv-loop μ-loop
+returns c =
+    let at-loop = c .before in
+    let start = at-loop .before .before .before .before .before in
+    let a = start .args in
+    let now = at-loop .loop in
+    let long : length (a .b .slots) ≡ 16 = search needs in
+    united (a .left .now) (a .right .now) (a .a .slots) (a .b .slots) (now .left) (now .right) (now .slots) (start .pre)
+    (uniting-done (a .left .now) (a .right .now) (a .a .slots) (a .b .slots) (start .pre) long (now .left) (now .right) (now .slots) (now .carry) (now .k) (now .inv) (search needs)) (now .inv .kept) (now .inv .left-length) (now .inv .right-length)
+
+pub union-spec : {M : Type 1} → statement M
+union-spec =
+    tie.close
+    (tie.spec
+    Inv-loop
+    μ-loop
+    loop-holds
+    mul-add
+    array-read-add
+    mul-add-2
+    array-read-add-2
+    add-requires
+    mul-slots
+    array-write-slots
+    add-k
+    loop-less
+    loop-again
+    same-length
+    same-length-2
+    returns)

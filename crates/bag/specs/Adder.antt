@@ -1,0 +1,29 @@
+-- The full adder's table as the code has it. That each of its rows is 000's is proofs/AddFacts.antt, `add-rows`.
+use Prim.Native.Nat.{ℕ, zero, suc, _+_, _*_}
+use mathlib.Core.List.{List, [], _∷_}
+use lib.ListN.{getD}
+
+-- 1 for a pennant that is there, 0 for one that is empty
+unfoldable pub bit : ℕ → ℕ
+bit zero = 0
+bit (suc x) = 1
+
+-- the row of the pennants with the roots x, y and z
+unfoldable pub rowOf : ℕ → ℕ → ℕ → ℕ
+rowOf x y z = bit x + 2 * bit y + 4 * bit z
+
+-- what an entry of the table stands for: 0 for none, 1 for x, 2 for y, 3 for z
+abbrev pub term : ℕ → ℕ → ℕ → ℕ → ℕ
+term x y z entry = getD (0 ∷ x ∷ y ∷ z ∷ []) entry 0
+
+-- three entries to a row: the sum, the root of the carry, the pennant that is united into it
+abbrev pub adderTable : List ℕ
+adderTable =
+    0 ∷ 0 ∷ 0 ∷
+    1 ∷ 0 ∷ 0 ∷
+    2 ∷ 0 ∷ 0 ∷
+    0 ∷ 1 ∷ 2 ∷
+    3 ∷ 0 ∷ 0 ∷
+    0 ∷ 1 ∷ 3 ∷
+    0 ∷ 2 ∷ 3 ∷
+    1 ∷ 2 ∷ 3 ∷ []

@@ -1,0 +1,4 @@
+-- Bags on node lists: what the contracts of the crate `bag` cite.
+pub mod Nodes
+pub mod Adder
+pub mod Steps

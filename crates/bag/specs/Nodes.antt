@@ -1,0 +1,44 @@
+-- Pennants and bags of nodes in two lists, left and right, and the free chain through left. Nodes are numbered from 1; 0 is none. Slot k says
+-- how deep a pennant goes, so that k levels of the lists are read and none is needed to end them.
+use Prim.Native.Nat.{ℕ, zero, suc}
+use mathlib.Core.List.{List, [], _∷_}
+use lib.ListN.{length, getD, replicate}
+use Rattle.pennant.specs.Pennant.{Tree, null, node, Slot, gap, tip}
+use Rattle.pennant.specs.Bag.{Bag, slotCount}
+use Rattle.pennant.specs.Held.{mapBag}
+
+-- the complete tree of 2^k - 1 nodes at x
+unfoldable pub treeAt : List ℕ → List ℕ → ℕ → ℕ → Tree
+treeAt left right zero x = null
+treeAt left right (suc k) x = node x (treeAt left right k (getD left x 0)) (treeAt left right k (getD right x 0))
+
+-- slot k with the node x: empty for 0, else the pennant of 2^k nodes with the root x
+unfoldable pub pennantAt : List ℕ → List ℕ → ℕ → ℕ → Slot
+pennantAt left right k zero = gap
+pennantAt left right k (suc x) = tip (suc x) (treeAt left right k (getD left (suc x) 0))
+
+unfoldable pub slotsFrom : List ℕ → List ℕ → ℕ → List ℕ → Bag
+slotsFrom left right k [] = []
+slotsFrom left right k (x ∷ xs) = pennantAt left right k x ∷ slotsFrom left right (suc k) xs
+
+-- the bag of nodes that the slots stand for
+unfoldable pub nodesOf : List ℕ → List ℕ → List ℕ → Bag
+nodesOf left right slots = slotsFrom left right 0 slots
+
+-- the bag of numbers held: the same trees with each node's number in its place
+unfoldable pub heldBy : List ℕ → List ℕ → List ℕ → List ℕ → Bag
+heldBy left right number slots = mapBag (λ x. getD number x 0) (nodesOf left right slots)
+
+-- an empty bag's slots
+abbrev pub emptySlots : List ℕ
+emptySlots = replicate slotCount 0
+
+-- "Free nodes are chained by a next index, zero ends the chain": at most so many nodes, from x on
+unfoldable pub freeFrom : List ℕ → ℕ → ℕ → List ℕ
+freeFrom left zero x = []
+freeFrom left (suc steps) zero = []
+freeFrom left (suc steps) (suc x) = suc x ∷ freeFrom left steps (getD left (suc x) 0)
+
+-- the free nodes: the chain starts at place 0, which is no node's
+unfoldable pub freeNodes : List ℕ → List ℕ
+freeNodes left = freeFrom left (length left) (getD left 0 0)

@@ -1,0 +1,77 @@
+// Bags of pennants (000, section 4) on three node lists that the caller lends: left and right child,
+// and the number that a node holds. Nodes are numbered from 1; 0 is none. The free nodes are chained
+// through left, from place 0 on, which is no node's. No operation walks a tree: each touches at most
+// the 16 slots of the bags it is given and, for a filled slot, one or two nodes.
+ghost use mathlib.Core.Path.{_≡_};
+ghost use Prim.Native.Nat.{ℕ, _≤_, _<_};
+ghost use mathlib.Core.List.{List};
+ghost use lib.ListN.{length, drop};
+ghost use Rattle.pennant.specs.Bag.{isEmpty, atLeastTwo, emptyBag};
+ghost use Rattle.bag.specs.Nodes.{nodesOf, emptySlots};
+ghost use Rattle.bag.specs.Steps.{firstFilled};
+
+mod adder;
+mod nodes;
+mod operations;
+mod store;
+
+pub use operations::insert;
+pub use operations::split;
+pub use operations::take;
+pub use operations::union;
+pub use store::pool;
+pub use store::sweep;
+
+// "a backbone of 16 slots": slot k is 0 or the root of a pennant of 2^k nodes.
+pub struct Bag {
+    pub slots: [u16; 16],
+}
+
+// The two bags of a split.
+pub struct Halves {
+    pub first: Bag,
+    pub second: Bag,
+}
+
+// What take leaves, and the number taken.
+pub struct Taken {
+    pub bag: Bag,
+    pub number: u16,
+}
+
+// BAG-CREATE.
+pub fn empty() -> Bag
+    ensures { λ r. ⌜ r .slots ≡ emptySlots ⌝ }
+{
+    Bag { slots: [0u16; 16] }
+}
+
+// The first filled slot from `from` on, or 16.
+pub fn first_filled(bag: Bag, from: usize) -> usize
+    requires { ⌜ from ≤ 16 ⌝ }
+    ensures { λ r. ⌜ r ≡ firstFilled from (drop from (bag .slots)) ⌝ }
+{
+    let slots = bag.slots;
+    let mut k = from;
+    while k < 16 {
+        if slots[k] != 0 {
+            return k;
+        }
+        k += 1;
+    }
+    k
+}
+
+// Whether the bag is empty.
+pub fn is_empty(bag: Bag) -> bool
+    ensures { λ r. ⌜ ((left right : List ℕ) → r ≡ isEmpty (nodesOf left right (bag .slots))) ⌝ }
+{
+    first_filled(bag, 0) == 16
+}
+
+// Whether the bag holds at least two numbers.
+pub fn at_least_two(bag: Bag) -> bool
+    ensures { λ r. ⌜ ((left right : List ℕ) → r ≡ atLeastTwo (nodesOf left right (bag .slots))) ⌝ }
+{
+    first_filled(bag, 1) < 16
+}

@@ -1,0 +1,144 @@
+// The operations on bags. They may assume a well-formed pool with the bags they are given, and nothing
+// of who else uses the lists.
+ghost use mathlib.Core.Path.{_≡_};
+ghost use mathlib.Core.Bool.{false};
+ghost use mathlib.Core.List.{[], _∷_};
+ghost use Prim.Native.Nat.{ℕ, _<_, _≤_};
+ghost use lib.ListN.{length, getD};
+ghost use Rattle.pennant.specs.Bag.{isEmpty};
+ghost use Rattle.bag.specs.Nodes.{nodesOf};
+ghost use Rattle.bag.specs.Steps.{Pool, Loose, Placed, Shifted, Spilled, Inserted, United, SplitInto, TakenFrom};
+use crate::Bag;
+use crate::Halves;
+use crate::Taken;
+use crate::adder::add;
+use crate::first_filled;
+use crate::nodes::allocate;
+use crate::nodes::at;
+use crate::nodes::halve;
+use crate::nodes::link;
+use crate::nodes::release;
+
+// BAG-INSERT of the node x.
+fn place(bag: Bag, x: u16, left: &mut [u16], right: &mut [u16]) -> Bag
+    requires { ⌜ Loose (now left) (now right) (bag .slots) x ⌝ }
+    ensures { λ r. ⌜ Placed (now (left .entry)) (now (right .entry)) (bag .slots) x (now (left .exit)) (now (right .exit)) (r .slots) ⌝ }
+{
+    let mut slots = bag.slots;
+    let mut root = x;
+    let mut k = 0;
+    while slots[k] != 0 {
+        let whole = slots[k];
+        link(whole, root, left, right);
+        root = whole;
+        slots[k] = 0;
+        k += 1;
+    }
+    slots[k] = root;
+    Bag { slots }
+}
+
+// Inserts the number, in the first free node.
+pub fn insert(bag: Bag, value: u16, left: &mut [u16], right: &mut [u16], number: &mut [u16]) -> Bag
+    requires { ⌜ Pool (now left) (now right) (bag .slots ∷ []) ⌝ }
+    requires { ⌜ length (now left) ≤ length (now number) ⌝ }
+    requires { ⌜ (getD (now left) 0 0 ≡ 0 → ⊥) ⌝ }
+    ensures { λ r. ⌜ Inserted (now (left .entry)) (now (right .entry)) (now (number .entry)) (bag .slots) value (now (left .exit)) (now (right .exit)) (now (number .exit)) (r .slots) ⌝ }
+{
+    let x = allocate(value, left, number);
+    place(bag, x, left, right)
+}
+
+// BAG-UNION of a and b.
+pub fn union(a: Bag, b: Bag, left: &mut [u16], right: &mut [u16]) -> Bag
+    requires { ⌜ Pool (now left) (now right) (a .slots ∷ b .slots ∷ []) ⌝ }
+    ensures { λ r. ⌜ United (now (left .entry)) (now (right .entry)) (a .slots) (b .slots) (now (left .exit)) (now (right .exit)) (r .slots) ⌝ }
+{
+    let mut slots = a.slots;
+    let others = b.slots;
+    let mut carry: u16 = 0;
+    let mut k = 0;
+    while k < 16 {
+        let sum = add(slots[k], others[k], carry, left, right);
+        slots[k] = sum.slot;
+        carry = sum.carry;
+        k += 1;
+    }
+    Bag { slots }
+}
+
+// BAG-SPLIT but for the pennant in slot 0, which is in neither half.
+fn shift(bag: Bag, left: &mut [u16], right: &[u16]) -> Halves
+    requires { ⌜ Pool (now left) (now right) (bag .slots ∷ []) ⌝ }
+    ensures { λ r. ⌜ Shifted (now (left .entry)) (now (right .entry)) (bag .slots) (now (left .exit)) (r .first .slots) (r .second .slots) ⌝ }
+{
+    let slots = bag.slots;
+    let mut first = [0u16; 16];
+    let mut second = [0u16; 16];
+    let mut k = 0;
+    while k < 15 {
+        let root = slots[k + 1];
+        second[k] = halve(root, left, right);
+        first[k] = root;
+        k += 1;
+    }
+    Halves {
+        first: Bag { slots: first },
+        second: Bag { slots: second },
+    }
+}
+
+// BAG-SPLIT.
+pub fn split(bag: Bag, left: &mut [u16], right: &mut [u16]) -> Halves
+    requires { ⌜ Pool (now left) (now right) (bag .slots ∷ []) ⌝ }
+    ensures { λ r. ⌜ SplitInto (now (left .entry)) (now (right .entry)) (bag .slots) (now (left .exit)) (now (right .exit)) (r .first .slots) (r .second .slots) ⌝ }
+{
+    let slots = bag.slots;
+    let odd = slots[0];
+    let halves = shift(bag, left, right);
+    if odd == 0 {
+        return halves;
+    }
+    let rest = halves.first;
+    let second = halves.second;
+    Halves {
+        first: place(rest, odd, left, right),
+        second,
+    }
+}
+
+// Splits the pennant in slot k for k times, always keeping the root; the halves fill the slots below.
+fn spill(bag: Bag, from: usize, left: &mut [u16], right: &[u16]) -> Bag
+    requires { ⌜ Pool (now left) (now right) (bag .slots ∷ []) ⌝ }
+    requires { ⌜ from < 16 ⌝ }
+    requires { ⌜ (getD (bag .slots) from 0 ≡ 0 → ⊥) ⌝ }
+    ensures { λ r. ⌜ Spilled (now (left .entry)) (now (right .entry)) (bag .slots) from (now (left .exit)) (r .slots) ⌝ }
+{
+    let mut slots = bag.slots;
+    let root = slots[from];
+    slots[from] = 0;
+    let mut k = from;
+    while 0 < k {
+        k -= 1;
+        slots[k] = halve(root, left, right);
+    }
+    Bag { slots }
+}
+
+// Takes the root of the pennant in the lowest filled slot and frees its node.
+pub fn take(bag: Bag, left: &mut [u16], right: &[u16], number: &[u16]) -> Taken
+    requires { ⌜ Pool (now left) (now right) (bag .slots ∷ []) ⌝ }
+    requires { ⌜ length (now left) ≤ length (now number) ⌝ }
+    requires { ⌜ isEmpty (nodesOf (now left) (now right) (bag .slots)) ≡ false ⌝ }
+    ensures { λ r. ⌜ TakenFrom (now (left .entry)) (now (right .entry)) (now (number .entry)) (bag .slots) (now (left .exit)) (r .bag .slots) (r .number) ⌝ }
+{
+    let slots = bag.slots;
+    let k = first_filled(bag, 0);
+    let root = slots[k];
+    let rest = spill(bag, k, left, right);
+    release(root, left);
+    Taken {
+        bag: rest,
+        number: at(number, root),
+    }
+}
