@@ -2,13 +2,16 @@
 use Prim.Native.Nat.{ℕ, zero, suc, _+_, _*_, _≤_, _<_}
 use native.Mathlib.Omega.{arith}
 use mathlib.Core.Path.{_≡_, refl}
+use mathlib.Core.Bool.{Bool, true, false, not, _&&_, and-eq-true-iff}
 use mathlib.Core.List.{List, [], _∷_}
+use lib.Dec.{eqb}
+use borrow.Author.Tests.{eqb-true, not-true}
 use lib.ListN.{length, getD, set}
 use Rattle.lists.specs.Lists.{sumOf, reaches}
 use Rattle.lists.proofs.Tests.{reaches-at}
 use Rattle.pennant.specs.Bag.{adderSum, adderCarry}
 use Rattle.bag.specs.Nodes.{pennantAt}
-use Rattle.bag.specs.Adder.{bit, rowOf, term, adderTable}
+use Rattle.bag.specs.Adder.{bit, rowOf, term, adderTable, entryAt}
 use Rattle.bag.specs.Steps.{linkedLeft, linkedRight, Pennants, Added}
 use Rattle.bag.proofs.Only.{in-pool-once}
 use Rattle.bag.proofs.Kept.{pennant-kept}
@@ -16,7 +19,7 @@ use Rattle.bag.proofs.Pairs.{link-pennant, link-kept}
 
 -- what the row of x, y and z has in a column
 abbrev pub columnOf : ℕ → ℕ → ℕ → ℕ → ℕ
-columnOf column x y z = term x y z (getD adderTable (3 * rowOf x y z + column) 0)
+columnOf column x y z = term x y z (entryAt (rowOf x y z) column)
 
 -- a pennant is there or not
 pub bit-most : (x : ℕ) → bit x ≤ 1
@@ -30,15 +33,35 @@ unfolding bit
 bit-some zero h = absurd (h refl)
 bit-some (suc x) h = refl
 
+-- the row as the code counts it
+pub row-whole : (x y z : ℕ) {a b c : ℕ} → a ≡ bit x → b ≡ bit y → c ≡ bit z → a + 2 * b + 4 * c ≡ rowOf x y z
+unfolding rowOf
+row-whole x y z p q r = rw (p, q, r)
+
 -- there are eight rows
 pub row-most : (x y z : ℕ) → rowOf x y z < 8
 unfolding rowOf
 row-most x y z = omega (arith, bit-most x, bit-most y, bit-most z)
 
--- an entry stands for one of four
-pub entry-within : (i : ℕ) → i < 24 → getD adderTable i 0 < 4
-unfolding reaches
-entry-within i h = reaches-at 4 adderTable i refl h
+-- whether each row has three entries, each of them below four
+tabled : List (List ℕ) → Bool
+tabled [] = true
+tabled (row ∷ rows) = (eqb (length row) 3 && not (reaches 4 row)) && tabled rows
+
+tabled-row : (table : List (List ℕ)) (i : ℕ) → tabled table ≡ true → i < length table → (length (getD table i []) ≡ 3) × (reaches 4 (getD table i []) ≡ false)
+unfolding tabled
+tabled-row [] i e h = absurd (omega arith)
+tabled-row (row ∷ rows) zero e h =
+    let here = and-eq-true-iff (eqb (length row) 3) (not (reaches 4 row)) .0 (and-eq-true-iff (eqb (length row) 3 && not (reaches 4 row)) (tabled rows) .0 e .0) in
+    (eqb-true (length row) 3 (here .0), not-true (reaches 4 row) (here .1))
+tabled-row (row ∷ rows) (suc i) e h = tabled-row rows i (and-eq-true-iff (eqb (length row) 3 && not (reaches 4 row)) (tabled rows) .0 e .1) (omega arith)
+
+-- so an entry stands for one of four: computed once over the whole table
+pub entry-within : (row column : ℕ) → row < 8 → column < 3 → entryAt row column < 4
+unfolding tabled reaches
+entry-within row column h g =
+    let fits = tabled-row adderTable row refl h in
+    reaches-at 4 (getD adderTable row []) column (fits .1) (omega (arith, fits .0))
 
 -- which is below any bound that three are, if 0 is
 pub term-below : (x y z entry limit : ℕ) → entry < 4 → x < limit → y < limit → z < limit → term x y z entry < limit
@@ -49,8 +72,8 @@ term-below x y z (suc (suc (suc zero))) limit h a b c = c
 term-below x y z (suc (suc (suc (suc e)))) limit h a b c = absurd (omega arith)
 
 -- so an entry of a row is below what the three are
-pub entry-below : (x y z row column limit : ℕ) → row < 8 → column < 3 → x < limit → y < limit → z < limit → term x y z (getD adderTable (3 * row + column) 0) < limit
-entry-below x y z row column limit h g a b c = term-below x y z (getD adderTable (3 * row + column) 0) limit (entry-within (3 * row + column) (omega arith)) a b c
+pub entry-below : (x y z row column limit : ℕ) → row < 8 → column < 3 → x < limit → y < limit → z < limit → term x y z (entryAt row column) < limit
+entry-below x y z row column limit h g a b c = term-below x y z (entryAt row column) limit (entry-within row column h g) a b c
 
 -- a link where there is a root
 pub linked-some : (x y : ℕ) (left right : List ℕ) {left′ right′ : List ℕ} → (x ≡ 0 → ⊥) → left′ ≡ set left x y → right′ ≡ set right y (getD left x 0)
@@ -117,7 +140,8 @@ module _ (left right : List ℕ) (k : ℕ) where
   }
 
   -- the lists and the two slots as the code leaves them
-  pub add-whole : (x y z : ℕ) {left′ right′ : List ℕ} {slot carry : ℕ} → Pennants left right k (x ∷ y ∷ z ∷ [])
-      → left′ ≡ linkedLeft (columnOf 1 x y z) (columnOf 2 x y z) left → right′ ≡ linkedRight (columnOf 1 x y z) (columnOf 2 x y z) left right
-      → slot ≡ columnOf 0 x y z → carry ≡ columnOf 1 x y z → Added left right k x y z left′ right′ slot carry
-  add-whole x y z p l r s c = rw (l, r, s, c) (add-rows x y z p)
+  pub add-whole : (x y z : ℕ) {left′ right′ : List ℕ} {row root child slot : ℕ} → Pennants left right k (x ∷ y ∷ z ∷ []) → row ≡ rowOf x y z
+      → root ≡ term x y z (entryAt row 1) → child ≡ term x y z (entryAt row 2) → slot ≡ term x y z (entryAt row 0)
+      → left′ ≡ linkedLeft root child left → right′ ≡ linkedRight root child left right
+      → Added left right k x y z left′ right′ slot root
+  add-whole x y z p e a b c l r = rw (l, r, a, b, c, e) (add-rows x y z p)

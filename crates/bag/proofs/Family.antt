@@ -1,13 +1,14 @@
 -- A family of bags over one pool: what an operation on one or two of the bags requires, and that it leaves the others as they were.
 use Prim.Native.Nat.{ℕ, zero, suc, _+_, _≤_, _<_}
 use native.Mathlib.Omega.{arith}
-use mathlib.Core.Path.{_≡_, refl, sym, ap, _∙_}
+use mathlib.Core.Path.{_≡_, sym, ap, _∙_}
 use mathlib.Core.Bool.{true}
 use mathlib.Core.List.{List, [], _∷_, map}
 use lib.ListN.{length, getD, set, length-set}
-use lib.Seq.{getD-set-same, getD-set-other, set-set, set-comm}
+use lib.Seq.{getD-set-same, getD-set-other, set-set}
 use Rattle.lists.specs.Lists.{sumOf}
 use Rattle.lists.proofs.Sums.{sum-set, sum-same}
+use Rattle.lists.proofs.Replaced.{map-set, map-agree, set-two-again}
 use Rattle.pennant.specs.Bag.{Bag, isEmpty}
 use Rattle.pennant.specs.Held.{weigh, only, count}
 use Rattle.pennant.proofs.Laws.{empty-weighs, map-same}
@@ -16,23 +17,6 @@ use Rattle.bag.specs.Steps.{weighNodes, uses, Pool, Moved}
 use Rattle.bag.proofs.Only.{in-pool-once, in-pool-within}
 use Rattle.bag.proofs.Kept.{nodes-kept}
 use Rattle.bag.proofs.Free.{empty-weight}
-
--- Lists.
-
--- a function at each element, one of them replaced
-map-set : {A B : Type 0} (f : A → B) (l : List A) (i : ℕ) (y : A) → map f (set l i y) ≡ set (map f l) i (f y)
-map-set f [] i y = refl
-map-set f (x ∷ l) zero y = refl
-map-set f (x ∷ l) (suc i) y = rw (map-set f l i y)
-
--- two functions that agree on the list
-map-agree : {A B : Type 0} (f g : A → B) (d : A) (l : List A) → ((i : ℕ) → i < length l → f (getD l i d) ≡ g (getD l i d)) → map f l ≡ map g l
-map-agree f g d [] same = refl
-map-agree f g d (x ∷ l) same = rw (same 0 (omega arith), map-agree f g d l (λ i h. same (suc i) (omega arith)))
-
--- two elements replaced, and replaced again
-set-two-again : {A : Type 0} (l : List A) (i j : ℕ) (a b c d : A) → (i ≡ j → ⊥) → set (set (set (set l i a) j b) i c) j d ≡ set (set l i c) j d
-set-two-again l i j a b c d h = rw (set-comm l i j a b h, set-set (set l j b) i a c, ← set-comm l i j c b h, set-set (set l i c) j b d)
 
 -- A pool that an operation has gone over.
 

@@ -35,7 +35,7 @@ single-distinct (y ∷ l) h =
     (single-distinct l (λ x. omega (arith, h x)))
 
 -- the weight 1 counts the places
-sum-one : (l : List ℕ) → sumOf one l ≡ length l
+pub sum-one : (l : List ℕ) → sumOf one l ≡ length l
 unfolding sumOf
 sum-one [] = refl
 sum-one (x ∷ l) = omega (arith, sum-one l)

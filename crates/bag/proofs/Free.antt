@@ -12,12 +12,12 @@ use borrow.Author.Tests.{eqb-true, eqb-false}
 use Rattle.lists.specs.Lists.{sumOf, overlay, numbersFrom}
 use Rattle.lists.proofs.Tests.{length-range, getD-range}
 use Rattle.pennant.specs.Bag.{emptyBag}
-use Rattle.pennant.specs.Held.{weigh, only}
+use Rattle.pennant.specs.Held.{weigh, one, only}
 use Rattle.pennant.proofs.Laws.{only-self, only-within, weigh-empty}
 use Rattle.bag.specs.Nodes.{pennantAt, slotsFrom, nodesOf, freeFrom, freeNodes, emptySlots}
 use Rattle.bag.specs.Steps.{inPool, weighNodes, weighFree, Pool}
 use Rattle.bag.proofs.Only.{only-other, other-only, in-pool, in-pool-once, in-pool-within, in-pool-zero}
-use Rattle.bag.proofs.Few.{few-nodes}
+use Rattle.bag.proofs.Few.{few-nodes, sum-one}
 
 -- Chains.
 
@@ -127,6 +127,11 @@ free-push (first ∷ rest) (suc x) apart =
         let off : only (suc i) (suc x) ≡ 0 = omega (arith, apart (suc i), in-pool-once (length left) (suc i), ap (sumOf (only (suc i))) more) in
         getD-set-other rest x i first 0 (λ (e : i ≡ x). other-only (suc i) (suc x) off (ap suc (sym e)))
 
+-- a chain that has a node has a first one
+pub free-some : (left : List ℕ) → 1 ≤ weighFree one left → getD left 0 0 ≡ 0 → ⊥
+unfolding weighFree freeNodes sumOf
+free-some left h e = omega (arith, h, ap (sumOf one) (ap (freeFrom left (length left)) e ∙ free-none left (length left)))
+
 -- A new pool.
 
 module _ (nodes : ℕ) where
@@ -157,6 +162,11 @@ free-chained left nodes h =
   where
     past : List ℕ
     past = drop (length (chain nodes)) left
+
+-- as many as there are nodes
+pub free-count : (left : List ℕ) (nodes : ℕ) → freeNodes left ≡ numbersFrom 1 nodes → weighFree one left ≡ nodes
+unfolding weighFree
+free-count left nodes e = ap (sumOf one) e ∙ sum-one (numbersFrom 1 nodes) ∙ length-range 1 nodes
 
 -- a number below a range is not in it
 range-below : (x a n : ℕ) → x < a → sumOf (only x) (numbersFrom a n) ≡ 0

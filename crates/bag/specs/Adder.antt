@@ -16,14 +16,18 @@ rowOf x y z = bit x + 2 * bit y + 4 * bit z
 abbrev pub term : ℕ → ℕ → ℕ → ℕ → ℕ
 term x y z entry = getD (0 ∷ x ∷ y ∷ z ∷ []) entry 0
 
--- three entries to a row: the sum, the root of the carry, the pennant that is united into it
-abbrev pub adderTable : List ℕ
+-- the rows: the sum, the root of the carry, the pennant that is united into it
+abbrev pub adderTable : List (List ℕ)
 adderTable =
-    0 ∷ 0 ∷ 0 ∷
-    1 ∷ 0 ∷ 0 ∷
-    2 ∷ 0 ∷ 0 ∷
-    0 ∷ 1 ∷ 2 ∷
-    3 ∷ 0 ∷ 0 ∷
-    0 ∷ 1 ∷ 3 ∷
-    0 ∷ 2 ∷ 3 ∷
-    1 ∷ 2 ∷ 3 ∷ []
+    (0 ∷ 0 ∷ 0 ∷ []) ∷
+    (1 ∷ 0 ∷ 0 ∷ []) ∷
+    (2 ∷ 0 ∷ 0 ∷ []) ∷
+    (0 ∷ 1 ∷ 2 ∷ []) ∷
+    (3 ∷ 0 ∷ 0 ∷ []) ∷
+    (0 ∷ 1 ∷ 3 ∷ []) ∷
+    (0 ∷ 2 ∷ 3 ∷ []) ∷
+    (1 ∷ 2 ∷ 3 ∷ []) ∷ []
+
+-- the entry in a row and a column
+abbrev pub entryAt : ℕ → ℕ → ℕ
+entryAt row column = getD (getD adderTable row []) column 0

@@ -2,39 +2,23 @@
 // and one of twice the size.
 ghost use mathlib.Core.Path.{_≡_};
 ghost use mathlib.Core.List.{[], _∷_};
-ghost use Prim.Native.Nat.{ℕ, _+_, _*_, _<_, _≤_};
-ghost use lib.ListN.{length, getD};
-ghost use Rattle.bag.specs.Adder.{bit, rowOf, term, adderTable};
+ghost use Prim.Native.Nat.{ℕ, _<_, _≤_};
+ghost use lib.ListN.{length};
+ghost use Rattle.bag.specs.Adder.{bit, rowOf, term, entryAt};
 ghost use Rattle.bag.specs.Steps.{linkedLeft, linkedRight, Pennants, Added};
 use crate::nodes::link;
 
-// 000's table, a row of three for each x + 2y + 4z where a pennant that is there counts 1: which of
-// 0 (none), x, y, z is the sum, and of which two the carry is the union, the root first.
-const ADDER: [usize; 24] = [
-    0,
-    0,
-    0,
-    1,
-    0,
-    0,
-    2,
-    0,
-    0,
-    0,
-    1,
-    2,
-    3,
-    0,
-    0,
-    0,
-    1,
-    3,
-    0,
-    2,
-    3,
-    1,
-    2,
-    3,
+// 000's table. A row for each x + 2y + 4z, where a pennant that is there counts 1: which of none (0),
+// x (1), y (2) and z (3) is the sum, and of which two the carry is the union, its root first.
+const ADDER: [[usize; 3]; 8] = [
+    [0, 0, 0],
+    [1, 0, 0],
+    [2, 0, 0],
+    [0, 1, 2],
+    [3, 0, 0],
+    [0, 1, 3],
+    [0, 2, 3],
+    [1, 2, 3],
 ];
 
 pub struct Sum {
@@ -58,14 +42,24 @@ fn row_of(x: u16, y: u16, z: u16) -> usize
     filled(x) + 2 * filled(y) + 4 * filled(z)
 }
 
-// What a row has in a column.
-fn entry(row: usize, column: usize, x: u16, y: u16, z: u16) -> u16
+// What the table has in a row and a column.
+fn entry(row: usize, column: usize) -> usize
     requires { ⌜ row < 8 ⌝ }
     requires { ⌜ column < 3 ⌝ }
-    ensures { λ r. ⌜ r ≡ term x y z (getD adderTable (3 * row + column) 0) ⌝ }
+    ensures { λ r. ⌜ r ≡ entryAt row column ⌝ }
+{
+    let entries = ADDER[row];
+    entries[column]
+}
+
+// The pennant that it stands for.
+fn pick(row: usize, column: usize, x: u16, y: u16, z: u16) -> u16
+    requires { ⌜ row < 8 ⌝ }
+    requires { ⌜ column < 3 ⌝ }
+    ensures { λ r. ⌜ r ≡ term x y z (entryAt row column) ⌝ }
 {
     let terms: [u16; 4] = [0, x, y, z];
-    terms[ADDER[3 * row + column]]
+    terms[entry(row, column)]
 }
 
 // PENNANT-UNION of x and y, nothing where x is 0.
@@ -89,10 +83,10 @@ pub fn add(x: u16, y: u16, z: u16, left: &mut [u16], right: &mut [u16]) -> Sum
     ensures { λ r. ⌜ ((k : ℕ) → Pennants (now (left .entry)) (now (right .entry)) k (x ∷ y ∷ z ∷ []) → Added (now (left .entry)) (now (right .entry)) k x y z (now (left .exit)) (now (right .exit)) (r .slot) (r .carry)) ⌝ }
 {
     let row = row_of(x, y, z);
-    let root = entry(row, 1, x, y, z);
-    link_some(root, entry(row, 2, x, y, z), left, right);
+    let root = pick(row, 1, x, y, z);
+    link_some(root, pick(row, 2, x, y, z), left, right);
     Sum {
-        slot: entry(row, 0, x, y, z),
+        slot: pick(row, 0, x, y, z),
         carry: root,
     }
 }

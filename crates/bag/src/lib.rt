@@ -3,10 +3,10 @@
 // through left, from place 0 on, which is no node's. No operation walks a tree: each touches at most
 // the 16 slots of the bags it is given and, for a filled slot, one or two nodes.
 ghost use mathlib.Core.Path.{_≡_};
-ghost use Prim.Native.Nat.{ℕ, _≤_, _<_};
+ghost use Prim.Native.Nat.{ℕ, _≤_};
 ghost use mathlib.Core.List.{List};
-ghost use lib.ListN.{length, drop};
-ghost use Rattle.pennant.specs.Bag.{isEmpty, atLeastTwo, emptyBag};
+ghost use lib.ListN.{drop};
+ghost use Rattle.pennant.specs.Bag.{isEmpty, atLeastTwo};
 ghost use Rattle.bag.specs.Nodes.{nodesOf, emptySlots};
 ghost use Rattle.bag.specs.Steps.{firstFilled};
 
@@ -47,7 +47,7 @@ pub fn empty() -> Bag
 }
 
 // The first filled slot from `from` on, or 16.
-pub fn first_filled(bag: Bag, from: usize) -> usize
+fn first_filled(bag: Bag, from: usize) -> usize
     requires { ⌜ from ≤ 16 ⌝ }
     ensures { λ r. ⌜ r ≡ firstFilled from (drop from (bag .slots)) ⌝ }
 {

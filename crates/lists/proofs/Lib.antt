@@ -2,6 +2,7 @@
 pub mod Or
 pub mod Overlay
 pub mod Parts
+pub mod Replaced
 pub mod Rows
 pub mod Tests
 pub mod Sums

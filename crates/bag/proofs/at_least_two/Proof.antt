@@ -1,8 +1,9 @@
-use Rattle.bag.proofs.FilledFacts.{two-found}
-use lib.Dec.{ltb}
-use Prim.Native.Nat.{ℕ}
-use mathlib.Core.Path.{ap, _∙_}
+-- `bag::at_least_two` meets its contract: a slot past slot 0 is filled.
 use borrow.Author.Needs.{needs}
+use mathlib.Core.Path.{ap, _∙_}
+use Prim.Native.Nat.{ℕ}
+use lib.Dec.{ltb}
+use Rattle.bag.proofs.FilledFacts.{two-found}
 use Rattle.bag.proofs.at_least_two.Statement.{statement}
 use Rattle.bag.proofs.at_least_two.Tie as tie
 

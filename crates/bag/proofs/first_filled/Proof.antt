@@ -1,10 +1,10 @@
-use lib.ListN.{length}
-use Rattle.bag.proofs.FilledFacts.{filled-here, filled-pass, filled-none}
-use Rattle.bag.specs.Steps.{firstFilled}
-use lib.ListN.{drop}
+-- `bag::first_filled` meets its contract. The invariant: what is to be found is found from slot k on. The measure is 16 less k.
+use borrow.Author.Needs.{needs}
 use mathlib.Core.Path.{_≡_, refl, _∙_, sym}
 use Prim.Native.Nat.{_-_, _≤_}
-use borrow.Author.Needs.{needs}
+use lib.ListN.{length, drop}
+use Rattle.bag.specs.Steps.{firstFilled}
+use Rattle.bag.proofs.FilledFacts.{filled-here, filled-pass, filled-none}
 use Rattle.bag.proofs.first_filled.Statement.{statement}
 use Rattle.bag.proofs.first_filled.Tie as tie
 

@@ -1,8 +1,9 @@
-use Rattle.bag.proofs.FilledFacts.{empty-found}
-use lib.Dec.{eqb}
-use Prim.Native.Nat.{ℕ}
-use mathlib.Core.Path.{ap, _∙_}
+-- `bag::is_empty` meets its contract: no slot is filled.
 use borrow.Author.Needs.{needs}
+use mathlib.Core.Path.{ap, _∙_}
+use Prim.Native.Nat.{ℕ}
+use lib.Dec.{eqb}
+use Rattle.bag.proofs.FilledFacts.{empty-found}
 use Rattle.bag.proofs.is_empty.Statement.{statement}
 use Rattle.bag.proofs.is_empty.Tie as tie
 

@@ -1,7 +1,8 @@
-use Rattle.bag.specs.Adder.{bit}
-use mathlib.Core.Path.{sym, ap}
-use Rattle.bag.proofs.AddFacts.{bit-some}
+-- `bag::adder::filled` meets its contract, by cases.
 use native.Mathlib.Omega.{arith}
+use mathlib.Core.Path.{sym, ap}
+use Rattle.bag.specs.Adder.{bit}
+use Rattle.bag.proofs.AddFacts.{bit-some}
 use Rattle.bag.proofs.adder.filled.Statement.{statement}
 use Rattle.bag.proofs.adder.filled.Tie as tie
 

@@ -1,5 +1,6 @@
-use Rattle.bag.proofs.AddFacts.{linked-some, linked-none}
+-- `bag::adder::link_some` meets its contract, by cases.
 use borrow.Author.Needs.{needs}
+use Rattle.bag.proofs.AddFacts.{linked-some, linked-none}
 use Rattle.bag.proofs.adder.link_some.Statement.{statement}
 use Rattle.bag.proofs.adder.link_some.Tie as tie
 

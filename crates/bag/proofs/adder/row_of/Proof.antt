@@ -1,6 +1,7 @@
-use Rattle.bag.specs.Adder.{rowOf}
-use native.Mathlib.Omega.{arith}
+-- `bag::adder::row_of` meets its contract: the row counts the pennants that are there.
 use borrow.Author.Needs.{needs}
+use native.Mathlib.Omega.{arith}
+use Rattle.bag.proofs.AddFacts.{row-whole}
 use Rattle.bag.proofs.adder.row_of.Statement.{statement}
 use Rattle.bag.proofs.adder.row_of.Tie as tie
 
@@ -26,8 +27,9 @@ add-result-2 : tie.Need-add-result-2
 add-result-2 c = search needs
 
 returns : tie.Need-returns
-unfolding rowOf
-returns c = (cc, omega arith)
+returns c =
+    let a = c .before .before .before .args in
+    (row-whole (a .x) (a .y) (a .z) (c .before .before .filled .ensures .0) (c .before .filled2 .ensures .0) (c .filled3 .ensures .0), omega arith)
 
 pub row-of-spec : {M : Type 1} → statement M
 row-of-spec =

@@ -1,4 +1,8 @@
+-- `bag::nodes::allocate` meets its contract: the first free node is taken off the chain and gets the number.
 use borrow.Author.Needs.{needs}
+use mathlib.Core.Path.{ap, _∙_}
+use Prim.Native.Nat.{ℕ}
+use lib.ListN.{set}
 use Rattle.bag.proofs.nodes.allocate.Statement.{statement}
 use Rattle.bag.proofs.nodes.allocate.Tie as tie
 
@@ -21,7 +25,11 @@ same-length-2 : tie.Need-same-length-2
 same-length-2 c = search needs
 
 returns : tie.Need-returns
-returns c = (cc, (cc, cc))
+returns c =
+    let a = c .before .before .before .before .before .before .before .before .before .before .before .before .before .before .args in (
+      c .before .before .before .before .before .before .before .before .before .before .at .ensures,
+      (c .before .before .before .before .before .before .put .ensures ∙ ap (λ (n : ℕ). set (a .left .now) 0 n) (c .before .before .before .before .before .before .before .at2 .ensures), c .before .before .put2 .ensures),
+    )
 
 pub allocate-spec : {M : Type 1} → statement M
 allocate-spec =

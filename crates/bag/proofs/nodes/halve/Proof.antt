@@ -1,5 +1,9 @@
-use Rattle.bag.proofs.Pairs.{halve-zero, halve-some}
+-- `bag::nodes::halve` meets its contract: where there is a pennant its left child becomes the root of the half, else nothing is done.
 use borrow.Author.Needs.{needs}
+use mathlib.Core.Path.{ap, _∙_}
+use Prim.Native.Nat.{ℕ}
+use lib.ListN.{set, getD}
+use Rattle.bag.proofs.Pairs.{halve-zero, halve-some}
 use Rattle.bag.proofs.nodes.halve.Statement.{statement}
 use Rattle.bag.proofs.nodes.halve.Tie as tie
 
@@ -21,7 +25,10 @@ same-length c = search needs
 returns-2 : tie.Need-returns-2
 returns-2 c =
     let start = c .before .before .before .before .before .before .before .before .before .before in
-    λ k p. halve-some (start .args .left .now) (start .args .right .now) k (start .args .x) (search needs) (cc) (cc) p
+    let a = start .args in
+    let half = c .before .before .before .before .before .at .ensures in
+    λ k p. halve-some (a .left .now) (a .right .now) k (a .x) (search needs) half
+    (c .before .before .put .ensures ∙ ap (λ (n : ℕ). set (a .left .now) (a .x) n) (c .before .before .before .at2 .ensures ∙ ap (λ (n : ℕ). getD (a .right .now) n 0) half)) p
 
 pub halve-spec : {M : Type 1} → statement M
 halve-spec =

@@ -1,4 +1,8 @@
+-- `bag::nodes::link` meets its contract: two stores.
 use borrow.Author.Needs.{needs}
+use mathlib.Core.Path.{ap, _∙_}
+use Prim.Native.Nat.{ℕ}
+use lib.ListN.{set}
 use Rattle.bag.proofs.nodes.link.Statement.{statement}
 use Rattle.bag.proofs.nodes.link.Tie as tie
 
@@ -18,7 +22,10 @@ same-length-2 : tie.Need-same-length-2
 same-length-2 c = search needs
 
 returns : tie.Need-returns
-returns c = (cc, cc)
+returns c =
+    let start = c .before .before .before .before .before .before .before .before .before .before .before .before in
+    let a = start .args in
+    (c .before .before .put2 .ensures, c .before .before .before .before .before .before .put .ensures ∙ ap (λ (n : ℕ). set (a .right .now) (a .y) n) (c .before .before .before .before .before .before .before .at .ensures))
 
 pub link-spec : {M : Type 1} → statement M
 link-spec =

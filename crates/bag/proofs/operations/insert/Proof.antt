@@ -1,10 +1,10 @@
-use lib.ListN.{set}
-use Prim.Native.Nat.{ℕ}
-use mathlib.Core.Path.{ap, _∙_}
-use Rattle.bag.proofs.Outcomes.{loosened, placed-in}
-use Rattle.bag.proofs.Outcomes.{next-within, next-loose, inserts}
-use native.Mathlib.Omega.{arith}
+-- `bag::operations::insert` meets its contract: the first free node is apart from the bag, and is placed in it.
 use borrow.Author.Needs.{needs}
+use native.Mathlib.Omega.{arith}
+use mathlib.Core.Path.{ap, _∙_}
+use Prim.Native.Nat.{ℕ}
+use lib.ListN.{set}
+use Rattle.bag.proofs.Outcomes.{loosened, placed-in, next-within, next-loose, inserts}
 use Rattle.bag.proofs.operations.insert.Statement.{statement}
 use Rattle.bag.proofs.operations.insert.Tie as tie
 

@@ -1,8 +1,8 @@
-use Rattle.bag.proofs.PlaceFacts.{placed-on}
-use native.Mathlib.Omega.{arith}
-use Rattle.bag.proofs.PlaceFacts.{Placing, placing-start, placing-root, placing-filled, placing-step, placing-done}
-use Prim.Native.Nat.{_-_}
+-- `bag::operations::place` meets its contract. The invariant is Placing (PlaceFacts). The measure is 16 less k.
 use borrow.Author.Needs.{needs}
+use native.Mathlib.Omega.{arith}
+use Prim.Native.Nat.{_-_}
+use Rattle.bag.proofs.PlaceFacts.{placed-on, Placing, placing-start, placing-root, placing-filled, placing-step, placing-done}
 use Rattle.bag.proofs.operations.place.Statement.{statement}
 use Rattle.bag.proofs.operations.place.Tie as tie
 

@@ -1,12 +1,10 @@
-use Rattle.bag.proofs.ShiftFacts.{shifting-root, shifting-half}
-use lib.ListN.{getD}
-use Prim.Native.Nat.{ℕ, _+_}
-use native.Mathlib.Numerals.{add-one}
-use mathlib.Core.Path.{_≡_, ap}
-use lib.ListN.{length}
-use Rattle.bag.proofs.ShiftFacts.{Shifting, shifting-one, shifting-step, shifting-done}
-use Prim.Native.Nat.{_-_}
+-- `bag::operations::shift` meets its contract. The invariant is Shifting (ShiftFacts). The measure is 15 less k.
 use borrow.Author.Needs.{needs}
+use mathlib.Core.Path.{_≡_, ap}
+use Prim.Native.Nat.{ℕ, _+_, _-_}
+use native.Mathlib.Numerals.{add-one}
+use lib.ListN.{getD, length}
+use Rattle.bag.proofs.ShiftFacts.{shifting-root, shifting-half, Shifting, shifting-one, shifting-step, shifting-done}
 use Rattle.bag.proofs.operations.shift.Statement.{statement}
 use Rattle.bag.proofs.operations.shift.Tie as tie
 

@@ -1,11 +1,10 @@
-use Rattle.bag.proofs.SpillFacts.{spilling-in, spilling-out, spilling-root, spilling-half}
-use Prim.Native.Nat.{_-_, suc}
-use mathlib.Core.Path.{_≡_}
-use lib.ListN.{length}
-use native.Mathlib.Omega.{arith}
-use lib.ListN.{set}
-use Rattle.bag.proofs.SpillFacts.{Spilling, spilling-start, spilling-one, spilling-step, spilling-done}
+-- `bag::operations::spill` meets its contract. The invariant is Spilling (SpillFacts). The measure is k.
 use borrow.Author.Needs.{needs}
+use native.Mathlib.Omega.{arith}
+use mathlib.Core.Path.{_≡_}
+use Prim.Native.Nat.{_-_, suc}
+use lib.ListN.{length, set}
+use Rattle.bag.proofs.SpillFacts.{spilling-in, spilling-out, spilling-root, spilling-half, Spilling, spilling-start, spilling-one, spilling-step, spilling-done}
 use Rattle.bag.proofs.operations.spill.Statement.{statement}
 use Rattle.bag.proofs.operations.spill.Tie as tie
 

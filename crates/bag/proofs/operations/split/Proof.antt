@@ -1,7 +1,8 @@
-use Rattle.bag.proofs.Outcomes.{split-even, odd-loose, split-odd}
+-- `bag::operations::split` meets its contract: with slot 0 empty the two halves are whole, else its node is placed in the first.
+use borrow.Author.Needs.{needs}
 use mathlib.Core.Path.{_≡_}
 use lib.ListN.{length}
-use borrow.Author.Needs.{needs}
+use Rattle.bag.proofs.Outcomes.{split-even, odd-loose, split-odd}
 use Rattle.bag.proofs.operations.split.Statement.{statement}
 use Rattle.bag.proofs.operations.split.Tie as tie
 

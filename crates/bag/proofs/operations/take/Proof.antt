@@ -1,9 +1,10 @@
-use Rattle.bag.proofs.Outcomes.{taken-within, took}
-use Rattle.bag.proofs.FilledFacts.{lowest}
+-- `bag::operations::take` meets its contract: the lowest filled slot is spread over those below, and its root is freed.
+use borrow.Author.Needs.{needs}
+use native.Mathlib.Omega.{arith}
 use mathlib.Core.Path.{_≡_}
 use lib.ListN.{length}
-use native.Mathlib.Omega.{arith}
-use borrow.Author.Needs.{needs}
+use Rattle.bag.proofs.FilledFacts.{lowest}
+use Rattle.bag.proofs.Outcomes.{taken-within, took}
 use Rattle.bag.proofs.operations.take.Statement.{statement}
 use Rattle.bag.proofs.operations.take.Tie as tie
 

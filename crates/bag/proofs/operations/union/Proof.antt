@@ -1,11 +1,11 @@
-use Rattle.bag.proofs.Outcomes.{united}
-use Rattle.bag.proofs.UnionFacts.{uniting-slot, uniting-other, uniting-carry}
-use mathlib.Core.Path.{_≡_}
-use lib.ListN.{length}
-use native.Mathlib.Omega.{arith}
-use Rattle.bag.proofs.UnionFacts.{Uniting, uniting-start, uniting-three, uniting-step, uniting-done}
-use Prim.Native.Nat.{_-_}
+-- `bag::operations::union` meets its contract. The invariant is Uniting (UnionFacts). The measure is 16 less k.
 use borrow.Author.Needs.{needs}
+use native.Mathlib.Omega.{arith}
+use mathlib.Core.Path.{_≡_}
+use Prim.Native.Nat.{_-_}
+use lib.ListN.{length}
+use Rattle.bag.proofs.Outcomes.{united}
+use Rattle.bag.proofs.UnionFacts.{uniting-slot, uniting-other, uniting-carry, Uniting, uniting-start, uniting-three, uniting-step, uniting-done}
 use Rattle.bag.proofs.operations.union.Statement.{statement}
 use Rattle.bag.proofs.operations.union.Tie as tie
 

@@ -1,0 +1,22 @@
+-- Lists with elements replaced, and functions at each element.
+use Prim.Native.Nat.{ℕ, zero, suc, _<_}
+use native.Mathlib.Omega.{arith}
+use mathlib.Core.Path.{_≡_, refl}
+use mathlib.Core.List.{List, [], _∷_, map}
+use lib.ListN.{length, getD, set}
+use lib.Seq.{set-set, set-comm}
+
+-- a function at each element, one of them replaced
+pub map-set : {A B : Type 0} (f : A → B) (l : List A) (i : ℕ) (y : A) → map f (set l i y) ≡ set (map f l) i (f y)
+map-set f [] i y = refl
+map-set f (x ∷ l) zero y = refl
+map-set f (x ∷ l) (suc i) y = rw (map-set f l i y)
+
+-- two functions that agree on the list
+pub map-agree : {A B : Type 0} (f g : A → B) (d : A) (l : List A) → ((i : ℕ) → i < length l → f (getD l i d) ≡ g (getD l i d)) → map f l ≡ map g l
+map-agree f g d [] same = refl
+map-agree f g d (x ∷ l) same = rw (same 0 (omega arith), map-agree f g d l (λ i h. same (suc i) (omega arith)))
+
+-- two elements replaced, and replaced again
+pub set-two-again : {A : Type 0} (l : List A) (i j : ℕ) (a b c d : A) → (i ≡ j → ⊥) → set (set (set (set l i a) j b) i c) j d ≡ set (set l i c) j d
+set-two-again l i j a b c d h = rw (set-comm l i j a b h, set-set (set l j b) i a c, ← set-comm l i j c b h, set-set (set l i c) j b d)
