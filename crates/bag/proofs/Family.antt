@@ -13,7 +13,7 @@ use Rattle.pennant.specs.Bag.{Bag, isEmpty}
 use Rattle.pennant.specs.Held.{weigh, only, count}
 use Rattle.pennant.proofs.Laws.{empty-weighs, map-same}
 use Rattle.bag.specs.Nodes.{slotsFrom, nodesOf, heldBy, emptySlots}
-use Rattle.bag.specs.Steps.{weighNodes, uses, Pool, Moved}
+use Rattle.bag.specs.Promises.{weighNodes, uses, Pooled, Moved}
 use Rattle.bag.proofs.Only.{in-pool-once, in-pool-within}
 use Rattle.bag.proofs.Kept.{nodes-kept}
 use Rattle.bag.proofs.Free.{empty-weight}
@@ -21,7 +21,7 @@ use Rattle.bag.proofs.Free.{empty-weight}
 -- A pool that an operation has gone over.
 
 -- what was moved is well-formed still
-pub moved-pool : {left right left′ right′ : List ℕ} {bags bags′ : List (List ℕ)} → Pool left right bags → Moved left right bags left′ right′ bags′ → Pool left′ right′ bags′
+pub moved-pool : {left right left′ right′ : List ℕ} {bags bags′ : List (List ℕ)} → Pooled left right bags → Moved left right bags left′ right′ bags′ → Pooled left′ right′ bags′
 moved-pool pool moved = record {
   some = omega (arith, pool .some, moved .left-length);
   few = omega (arith, pool .few, moved .left-length);
@@ -67,7 +67,7 @@ abbrev Parts : List (List ℕ) → List (List ℕ) → List (List ℕ) → Type 
 Parts bags part rest = (f : ℕ → ℕ) (left right : List ℕ) → weighNodes f left right bags ≡ weighNodes f left right part + weighNodes f left right rest
 
 -- what is well-formed with the family is so with the part
-pool-part : {left right : List ℕ} {bags : List (List ℕ)} (part rest : List (List ℕ)) → Pool left right bags → Parts bags part rest → Pool left right part
+pool-part : {left right : List ℕ} {bags : List (List ℕ)} (part rest : List (List ℕ)) → Pooled left right bags → Parts bags part rest → Pooled left right part
 pool-part {left} {right} part rest pool parts = record {
   some = pool .some;
   few = pool .few;
@@ -78,10 +78,10 @@ pool-part {left} {right} part rest pool parts = record {
 -- a family after an operation on some of its bags: it is moved, well-formed, and the other bags are as they were
 pub record FamilyAfter (left right left′ right′ : List ℕ) (bags bags′ : List (List ℕ)) (Other : ℕ → Type 0) : Type 0 where
   pub moved : Moved left right bags left′ right′ bags′
-  pub pool : Pool left′ right′ bags′
+  pub pool : Pooled left′ right′ bags′
   pub others : (m : ℕ) → Other m → nodesOf left′ right′ (getD bags m []) ≡ nodesOf left right (getD bags m [])
 
-module _ {left right left′ right′ : List ℕ} {bags part part′ : List (List ℕ)} (rest : List (List ℕ)) (pool : Pool left right bags) (parts : Parts bags part rest) (moved : Moved left right part left′ right′ part′) where
+module _ {left right left′ right′ : List ℕ} {bags part part′ : List (List ℕ)} (rest : List (List ℕ)) (pool : Pooled left right bags) (parts : Parts bags part rest) (moved : Moved left right part left′ right′ part′) where
   -- a node of the rest is none of those that move
   rest-off : (m x : ℕ) → 1 ≤ count x (nodesOf left right (getD rest m [])) → (0 < x) × (uses x left right part ≡ 0)
   rest-off m x h =
@@ -141,10 +141,10 @@ one-parts-after bags i slots h f left right =
     rw (getD-set-same bags i slots [] h, set-set bags i slots emptySlots) at (one-parts (set bags i slots) i (rw length-set h) f left right)
 
 -- what an operation on one bag requires
-pub pool-one : {left right : List ℕ} (bags : List (List ℕ)) (i : ℕ) → Pool left right bags → i < length bags → Pool left right (getD bags i [] ∷ [])
+pub pool-one : {left right : List ℕ} (bags : List (List ℕ)) (i : ℕ) → Pooled left right bags → i < length bags → Pooled left right (getD bags i [] ∷ [])
 pool-one bags i pool h = pool-part (getD bags i [] ∷ []) (set bags i emptySlots) pool (one-parts bags i h)
 
-module _ (left right left′ right′ : List ℕ) (bags : List (List ℕ)) (i : ℕ) (slots′ : List ℕ) (pool : Pool left right bags) (inside : i < length bags) (moved : Moved left right (getD bags i [] ∷ []) left′ right′ (slots′ ∷ [])) where
+module _ (left right left′ right′ : List ℕ) (bags : List (List ℕ)) (i : ℕ) (slots′ : List ℕ) (pool : Pooled left right bags) (inside : i < length bags) (moved : Moved left right (getD bags i [] ∷ []) left′ right′ (slots′ ∷ [])) where
   -- the family after an operation on one bag
   pub family-one : FamilyAfter left right left′ right′ bags (set bags i slots′) (λ (m : ℕ). m ≡ i → ⊥)
   family-one =
@@ -197,12 +197,12 @@ two-parts-after bags i j first second h k apart f left right =
     ) at (two-parts (set (set bags i first) j second) i j (simp length-set h) (simp length-set k) apart f left right)
 
 -- what an operation on two bags requires
-pub pool-two : {left right : List ℕ} (bags : List (List ℕ)) (i j : ℕ) → Pool left right bags → i < length bags → j < length bags → (i ≡ j → ⊥)
-    → Pool left right (getD bags i [] ∷ getD bags j [] ∷ [])
+pub pool-two : {left right : List ℕ} (bags : List (List ℕ)) (i j : ℕ) → Pooled left right bags → i < length bags → j < length bags → (i ≡ j → ⊥)
+    → Pooled left right (getD bags i [] ∷ getD bags j [] ∷ [])
 pool-two bags i j pool h k apart =
     pool-part (getD bags i [] ∷ getD bags j [] ∷ []) (set (set bags i emptySlots) j emptySlots) pool (two-parts bags i j h k apart)
 
-module _ (left right left′ right′ : List ℕ) (bags : List (List ℕ)) (i j : ℕ) (first′ second′ : List ℕ) (pool : Pool left right bags) (within-i : i < length bags) (within-j : j < length bags) (apart : i ≡ j → ⊥) (moved : Moved left right (getD bags i [] ∷ getD bags j [] ∷ []) left′ right′ (first′ ∷ second′ ∷ [])) where
+module _ (left right left′ right′ : List ℕ) (bags : List (List ℕ)) (i j : ℕ) (first′ second′ : List ℕ) (pool : Pooled left right bags) (within-i : i < length bags) (within-j : j < length bags) (apart : i ≡ j → ⊥) (moved : Moved left right (getD bags i [] ∷ getD bags j [] ∷ []) left′ right′ (first′ ∷ second′ ∷ [])) where
   -- the family after an operation on two bags
   pub family-two : FamilyAfter left right left′ right′ bags (set (set bags i first′) j second′) (λ (m : ℕ). (m ≡ i → ⊥) × (m ≡ j → ⊥))
   family-two =

@@ -15,7 +15,7 @@ use Rattle.pennant.specs.Pennant.{Slot}
 use Rattle.pennant.specs.Bag.{isGap}
 use Rattle.pennant.specs.Held.{one, only, slotItems, weighSlot, Pennant}
 use Rattle.pennant.proofs.Laws.{weigh-slot-items, only-self, pennant-size}
-use Rattle.bag.specs.Steps.{inPool}
+use Rattle.bag.specs.Promises.{inPool}
 use Rattle.bag.proofs.Only.{in-pool-once, in-pool-within}
 
 -- a number of the list counts there

@@ -120,5 +120,5 @@ module _ (left right : List ℕ) where
           })
 
   -- take goes by the first filled slot
-  pub lowest : (slots : List ℕ) {r : ℕ} → r ≡ firstFilled 0 slots → isEmpty (nodesOf left right slots) ≡ false → Lowest slots 0 r
-  lowest slots e f = rw e (lowest-from slots (length slots) 0 (zero-add (length slots)) f)
+  pub lowest-found : (slots : List ℕ) {r : ℕ} → r ≡ firstFilled 0 slots → isEmpty (nodesOf left right slots) ≡ false → Lowest slots 0 r
+  lowest-found slots e f = rw e (lowest-from slots (length slots) 0 (zero-add (length slots)) f)

@@ -15,7 +15,7 @@ use Rattle.pennant.specs.Bag.{emptyBag}
 use Rattle.pennant.specs.Held.{weigh, one, only}
 use Rattle.pennant.proofs.Laws.{only-self, only-within, weigh-empty}
 use Rattle.bag.specs.Nodes.{pennantAt, slotsFrom, nodesOf, freeFrom, freeNodes, emptySlots}
-use Rattle.bag.specs.Steps.{inPool, weighNodes, weighFree, Pool}
+use Rattle.bag.specs.Promises.{inPool, weighNodes, weighFree, Pooled}
 use Rattle.bag.proofs.Only.{only-other, other-only, in-pool, in-pool-once, in-pool-within, in-pool-zero}
 use Rattle.bag.proofs.Few.{few-nodes, sum-one}
 
@@ -204,7 +204,7 @@ module _ (left right : List ℕ) where
 
   -- a new pool with any number of empty bags
   pub pool-free : (nodes count : ℕ) → freeNodes left ≡ numbersFrom 1 nodes → nodes < length left → length left ≤ 65536 → length left ≤ length right
-      → Pool left right (replicate count emptySlots)
+      → Pooled left right (replicate count emptySlots)
   unfolding weighFree
   pool-free nodes count chain h few wide = record {
     some = omega arith;

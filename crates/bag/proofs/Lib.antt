@@ -11,5 +11,6 @@ pub mod SpillFacts
 pub mod ShiftFacts
 pub mod FilledFacts
 pub mod Free
+pub mod HeldFacts
 pub mod Family
 pub mod Outcomes

@@ -6,7 +6,7 @@ use mathlib.Core.Bool.{Bool, true, false, cond, _&&_}
 use lib.Dec.{eqb, ltb}
 use borrow.Author.Tests.{eqb-true, eq-eqb, ne-eqb, ltb-true, lt-ltb}
 use Rattle.pennant.specs.Held.{only}
-use Rattle.bag.specs.Steps.{inPool}
+use Rattle.bag.specs.Promises.{inPool}
 
 -- a node does not count at another
 pub only-other : (i x : ℕ) → (x ≡ i → ⊥) → only i x ≡ 0

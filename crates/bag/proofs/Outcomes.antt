@@ -12,7 +12,8 @@ use Rattle.pennant.specs.Bag.{Bag, isEmpty, bagInsert, insertFilled, bagUnion, 
 use Rattle.pennant.specs.Held.{weighTree, weighSlot, weigh, only, count, mapBag}
 use Rattle.pennant.proofs.Laws.{only-self, weigh-insert, weigh-union, weigh-split, weigh-halves, weigh-end, weigh-rest, map-insert, map-union, map-first, map-second, map-rest, map-taken, map-same}
 use Rattle.bag.specs.Nodes.{pennantAt, treeAt, nodesOf, heldBy, freeNodes}
-use Rattle.bag.specs.Steps.{inPool, weighNodes, weighFree, uses, Pool, Loose, Placed, Shifted, Spilled, Inserted, United, SplitInto, TakenFrom}
+use Rattle.bag.specs.Promises.{inPool, weighNodes, weighFree, uses, Pooled, Inserted, United, SplitInto, TakenFrom}
+use Rattle.bag.specs.Steps.{Loose, Placed, Shifted, Spilled}
 use Rattle.bag.proofs.Only.{other-only, in-pool-once, in-pool-within, in-pool-zero}
 use Rattle.bag.proofs.Kept.{Same, nodes-kept, nodes-at, nodes-shaped, length-nodes}
 use Rattle.bag.proofs.Pairs.{pennant-some}
@@ -21,11 +22,11 @@ use Rattle.bag.proofs.FilledFacts.{Lowest}
 use Rattle.bag.proofs.Free.{free-kept, free-pop, free-push, empty-weight}
 
 -- 0 is in no bag and in no chain
-none-zero : (left right : List ℕ) (bags : List (List ℕ)) → Pool left right bags → uses 0 left right bags ≡ 0
+none-zero : (left right : List ℕ) (bags : List (List ℕ)) → Pooled left right bags → uses 0 left right bags ≡ 0
 none-zero left right bags p = omega (arith, p .apart 0, in-pool-zero (length left))
 
 -- a list that is changed at nodes of the bags alone has the free chain that it had
-free-same : (left right : List ℕ) (bags : List (List ℕ)) (left′ : List ℕ) → Pool left right bags → length left′ ≡ length left
+free-same : (left right : List ℕ) (bags : List (List ℕ)) (left′ : List ℕ) → Pooled left right bags → length left′ ≡ length left
     → ((i : ℕ) → weighNodes (only i) left right bags ≡ 0 → getD left′ i 0 ≡ getD left i 0) → freeNodes left′ ≡ freeNodes left
 unfolding weighFree
 free-same left right bags left′ p l kept =
@@ -45,11 +46,11 @@ module _ (left right slots : List ℕ) {left′ : List ℕ} {x : ℕ} (e : x ≡
 
 module _ (left right : List ℕ) where
   -- union
-  pub united : (a b left′ right′ slots′ : List ℕ) → Pool left right (a ∷ b ∷ []) → nodesOf left′ right′ slots′ ≡ bagUnion (nodesOf left right a) (nodesOf left right b)
+  pub unites : (a b left′ right′ slots′ : List ℕ) → Pooled left right (a ∷ b ∷ []) → nodesOf left′ right′ slots′ ≡ bagUnion (nodesOf left right a) (nodesOf left right b)
       → ((i : ℕ) → weighNodes (only i) left right (a ∷ b ∷ []) ≡ 0 → Same left right left′ right′ i)
       → length left′ ≡ length left → length right′ ≡ length right → United left right a b left′ right′ slots′
   unfolding heldBy weighNodes weighFree sumOf
-  united a b left′ right′ slots′ p e kept ll rl = record {
+  unites a b left′ right′ slots′ p e kept ll rl = record {
     free = free;
     nodes = e;
     held = λ number. ap (mapBag (λ x. getD number x 0)) e ∙ map-union (λ x. getD number x 0) (nodesOf left right a) (nodesOf left right b);
@@ -66,7 +67,7 @@ module _ (left right : List ℕ) where
       free = free-same left right (a ∷ b ∷ []) left′ p ll (λ i c. kept i (omega arith) .0)
 
   -- split, from the two bags as trees
-  splits : (slots left′ right′ first second : List ℕ) → Pool left right (slots ∷ []) → nodesOf left′ right′ first ≡ splitFirst (nodesOf left right slots) → nodesOf left′ right′ second ≡ splitSecond (nodesOf left right slots)
+  splits : (slots left′ right′ first second : List ℕ) → Pooled left right (slots ∷ []) → nodesOf left′ right′ first ≡ splitFirst (nodesOf left right slots) → nodesOf left′ right′ second ≡ splitSecond (nodesOf left right slots)
       → ((i : ℕ) → count i (nodesOf left right slots) ≡ 0 → Same left right left′ right′ i)
       → length left′ ≡ length left → length right′ ≡ length right → SplitInto left right slots left′ right′ first second
   unfolding heldBy weighNodes weighFree sumOf
@@ -88,7 +89,7 @@ module _ (left right : List ℕ) where
       free : freeNodes left′ ≡ freeNodes left
       free = free-same left right (slots ∷ []) left′ p ll (λ i c. kept i (omega arith) .0)
 
-  module _ (slots : List ℕ) (p : Pool left right (slots ∷ [])) (l : length slots ≡ 16) where
+  module _ (slots : List ℕ) (p : Pooled left right (slots ∷ [])) (l : length slots ≡ 16) where
     -- each node of the bag is in it once
     pool-once : (i : ℕ) → count i (nodesOf left right slots) ≤ 1
     unfolding weighNodes sumOf
@@ -226,10 +227,10 @@ module _ (left right : List ℕ) where
             ∙ ap (λ (l : List ℕ). getD slots r 0 ∷ l) free-left
 
         -- take
-        pub took : (number : List ℕ) {left‴ : List ℕ} {value : ℕ} → left‴ ≡ set (set left′ (getD slots r 0) (getD left′ 0 0)) 0 (getD slots r 0) → value ≡ getD number (getD slots r 0) 0
+        pub takes : (number : List ℕ) {left‴ : List ℕ} {value : ℕ} → left‴ ≡ set (set left′ (getD slots r 0) (getD left′ 0 0)) 0 (getD slots r 0) → value ≡ getD number (getD slots r 0) 0
             → TakenFrom left right number slots left‴ slots′ value
         unfolding left″ heldBy weighNodes weighFree sumOf
-        took number {left‴} {value} e v = rw (e, v) (record {
+        takes number {left‴} {value} e v = rw (e, v) (record {
           free = chain ∙ ap (λ (x : ℕ). x ∷ freeNodes left) (sym taken-root);
           nodes = rest;
           taken = sym (map-taken (λ x. getD number x 0) (nodesOf left right slots) f ∙ ap (λ (x : ℕ). getD number x 0) taken-root);
@@ -244,7 +245,7 @@ module _ (left right : List ℕ) where
         })
 
   -- insert: the first free node, apart from the bag
-  module _ (slots : List ℕ) (p : Pool left right (slots ∷ [])) (some : getD left 0 0 ≡ 0 → ⊥) where
+  module _ (slots : List ℕ) (p : Pooled left right (slots ∷ [])) (some : getD left 0 0 ≡ 0 → ⊥) where
     popped : freeNodes left ≡ getD left 0 0 ∷ freeNodes (set left 0 (getD left (getD left 0 0) 0))
     unfolding weighFree
     popped = free-pop left some (λ i. omega (arith, p .apart i))

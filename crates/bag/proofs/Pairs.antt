@@ -10,7 +10,8 @@ use Rattle.pennant.specs.Pennant.{Tree, tip, pennantUnion, pennantKept, pennant
 use Rattle.pennant.specs.Held.{weighTree, weighSlot, only}
 use Rattle.pennant.proofs.Laws.{only-self}
 use Rattle.bag.specs.Nodes.{treeAt, pennantAt}
-use Rattle.bag.specs.Steps.{inPool, usesAt, Pennants, Halved}
+use Rattle.bag.specs.Promises.{inPool}
+use Rattle.bag.specs.Steps.{usesAt, Pennants, Halved}
 use Rattle.bag.proofs.Only.{only-other, other-only, in-pool-once, in-pool-within}
 use Rattle.bag.proofs.Kept.{Same, tree-kept}
 

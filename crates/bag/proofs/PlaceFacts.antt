@@ -12,7 +12,8 @@ use Rattle.pennant.specs.Bag.{Bag, isGap, insertPennant, bagInsert}
 use Rattle.pennant.specs.Held.{weighSlot, weigh, only, count}
 use Rattle.pennant.proofs.Laws.{weigh-append, weigh-pennant-union, weigh-insert-pennant, weigh-insert}
 use Rattle.bag.specs.Nodes.{treeAt, pennantAt, nodesOf}
-use Rattle.bag.specs.Steps.{inPool, Pennants, Loose, Placed}
+use Rattle.bag.specs.Promises.{inPool}
+use Rattle.bag.specs.Steps.{Pennants, Loose, Placed}
 use Rattle.bag.proofs.Only.{in-pool-once, in-pool-within}
 use Rattle.bag.proofs.Kept.{Same, nodes-kept, nodes-at, nodes-set, length-nodes, pennant-shaped}
 use Rattle.bag.proofs.Few.{rank-below}

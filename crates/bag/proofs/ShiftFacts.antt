@@ -12,7 +12,8 @@ use Rattle.pennant.specs.Bag.{Bag}
 use Rattle.pennant.specs.Held.{weighSlot, weigh, only}
 use Rattle.pennant.proofs.Laws.{weigh-append, weigh-halves, weigh-end}
 use Rattle.bag.specs.Nodes.{pennantAt, nodesOf}
-use Rattle.bag.specs.Steps.{inPool, weighNodes, Pool, Pennants, Halved, Shifted}
+use Rattle.bag.specs.Promises.{inPool, weighNodes, Pooled}
+use Rattle.bag.specs.Steps.{Pennants, Halved, Shifted}
 use Rattle.bag.proofs.Only.{in-pool-once}
 use Rattle.bag.proofs.Kept.{drop-kept, take-kept, nodes-at, nodes-set, length-nodes}
 use Rattle.bag.proofs.Pairs.{root-below, half-within}
@@ -73,7 +74,7 @@ module _ (left₀ right slots₀ : List ℕ) where
     left-length = refl;
   }
 
-  module _ (p : Pool left₀ right (slots₀ ∷ [])) (l : length slots₀ ≡ 16) (left first second : List ℕ) (k : ℕ) (w : Shifting left first second k) where
+  module _ (p : Pooled left₀ right (slots₀ ∷ [])) (l : length slots₀ ≡ 16) (left first second : List ℕ) (k : ℕ) (w : Shifting left first second k) where
     -- no node is lost or gained
     shifting-weighs : (f : ℕ → ℕ)
         → weigh f (take k (nodesOf left right first)) + weigh f (take k (nodesOf left right second)) + weigh f (drop (suc k) (nodesOf left right slots₀)) ≡ weigh f (drop 1 (nodesOf left₀ right slots₀))

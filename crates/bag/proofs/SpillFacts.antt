@@ -11,7 +11,8 @@ use Rattle.pennant.specs.Bag.{Bag, spread}
 use Rattle.pennant.specs.Held.{weighSlot, weigh, only, count}
 use Rattle.pennant.proofs.Laws.{weigh-spread}
 use Rattle.bag.specs.Nodes.{treeAt, pennantAt, nodesOf}
-use Rattle.bag.specs.Steps.{inPool, weighNodes, Pool, Pennants, Halved, Spilled}
+use Rattle.bag.specs.Promises.{inPool, weighNodes, Pooled}
+use Rattle.bag.specs.Steps.{Pennants, Halved, Spilled}
 use Rattle.bag.proofs.Only.{in-pool-once}
 use Rattle.bag.proofs.Kept.{drop-kept, nodes-at, nodes-set, length-nodes, pennant-shaped}
 use Rattle.bag.proofs.Pairs.{pennant-some, root-below, half-within}
@@ -33,7 +34,7 @@ module _ (left₀ right slots₀ : List ℕ) (top : ℕ) where
     pub long : length slots ≡ 16
     pub left-length : length left ≡ length left₀
 
-  module _ (p : Pool left₀ right (slots₀ ∷ [])) (l : length slots₀ ≡ 16) (h : top < 16) (some : getD slots₀ top 0 ≡ 0 → ⊥) where
+  module _ (p : Pooled left₀ right (slots₀ ∷ [])) (l : length slots₀ ≡ 16) (h : top < 16) (some : getD slots₀ top 0 ≡ 0 → ⊥) where
     top-within : top < length (nodesOf left₀ right slots₀)
     top-within = rw (length-nodes left₀ right slots₀) (omega arith)
 

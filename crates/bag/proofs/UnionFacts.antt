@@ -12,7 +12,8 @@ use Rattle.pennant.specs.Bag.{Bag, adderSum, addFrom, bagUnion}
 use Rattle.pennant.specs.Held.{weighSlot, weigh, only}
 use Rattle.pennant.proofs.Laws.{weigh-append, weigh-add-from, weigh-union}
 use Rattle.bag.specs.Nodes.{pennantAt, nodesOf}
-use Rattle.bag.specs.Steps.{inPool, weighNodes, Pool, Pennants, Added}
+use Rattle.bag.specs.Promises.{inPool, weighNodes, Pooled}
+use Rattle.bag.specs.Steps.{Pennants, Added}
 use Rattle.bag.proofs.Only.{in-pool-once}
 use Rattle.bag.proofs.Kept.{Same, nodes-kept, drop-kept, nodes-at, nodes-set, length-nodes, pennant-shaped}
 use Rattle.bag.proofs.Few.{rank-below}
@@ -35,7 +36,7 @@ module _ (left₀ right₀ a b : List ℕ) where
   unfolding bagUnion pennantAt
   uniting-start l = record { tree = refl; kept = λ i c. (refl, refl); below = omega arith; long = l; left-length = refl; right-length = refl }
 
-  module _ (p : Pool left₀ right₀ (a ∷ b ∷ [])) (l : length b ≡ 16) (left right slots : List ℕ) (carry k : ℕ) (w : Uniting left right slots carry k) where
+  module _ (p : Pooled left₀ right₀ (a ∷ b ∷ [])) (l : length b ≡ 16) (left right slots : List ℕ) (carry k : ℕ) (w : Uniting left right slots carry k) where
     -- no node is lost or gained
     uniting-weighs : (f : ℕ → ℕ) → weigh f (nodesOf left right slots) + weighSlot f (pennantAt left right k carry) + weigh f (drop k (nodesOf left right b)) ≡ weighNodes f left₀ right₀ (a ∷ b ∷ [])
     unfolding weighNodes sumOf

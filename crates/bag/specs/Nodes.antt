@@ -17,6 +17,7 @@ unfoldable pub pennantAt : List ℕ → List ℕ → ℕ → ℕ → Slot
 pennantAt left right k zero = gap
 pennantAt left right k (suc x) = tip (suc x) (treeAt left right k (getD left (suc x) 0))
 
+-- the slots from slot k on
 unfoldable pub slotsFrom : List ℕ → List ℕ → ℕ → List ℕ → Bag
 slotsFrom left right k [] = []
 slotsFrom left right k (x ∷ xs) = pennantAt left right k x ∷ slotsFrom left right (suc k) xs

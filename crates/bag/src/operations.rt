@@ -7,7 +7,8 @@ ghost use Prim.Native.Nat.{ℕ, _<_, _≤_};
 ghost use lib.ListN.{length, getD};
 ghost use Rattle.pennant.specs.Bag.{isEmpty};
 ghost use Rattle.bag.specs.Nodes.{nodesOf};
-ghost use Rattle.bag.specs.Steps.{Pool, Loose, Placed, Shifted, Spilled, Inserted, United, SplitInto, TakenFrom};
+ghost use Rattle.bag.specs.Promises.{Pooled, Inserted, United, SplitInto, TakenFrom};
+ghost use Rattle.bag.specs.Steps.{Loose, Placed, Shifted, Spilled};
 use crate::Bag;
 use crate::Halves;
 use crate::Taken;
@@ -40,7 +41,7 @@ fn place(bag: Bag, x: u16, left: &mut [u16], right: &mut [u16]) -> Bag
 
 // Inserts the number, in the first free node.
 pub fn insert(bag: Bag, value: u16, left: &mut [u16], right: &mut [u16], number: &mut [u16]) -> Bag
-    requires { ⌜ Pool (now left) (now right) (bag .slots ∷ []) ⌝ }
+    requires { ⌜ Pooled (now left) (now right) (bag .slots ∷ []) ⌝ }
     requires { ⌜ length (now left) ≤ length (now number) ⌝ }
     requires { ⌜ (getD (now left) 0 0 ≡ 0 → ⊥) ⌝ }
     ensures { λ r. ⌜ Inserted (now (left .entry)) (now (right .entry)) (now (number .entry)) (bag .slots) value (now (left .exit)) (now (right .exit)) (now (number .exit)) (r .slots) ⌝ }
@@ -51,7 +52,7 @@ pub fn insert(bag: Bag, value: u16, left: &mut [u16], right: &mut [u16], number:
 
 // BAG-UNION of a and b.
 pub fn union(a: Bag, b: Bag, left: &mut [u16], right: &mut [u16]) -> Bag
-    requires { ⌜ Pool (now left) (now right) (a .slots ∷ b .slots ∷ []) ⌝ }
+    requires { ⌜ Pooled (now left) (now right) (a .slots ∷ b .slots ∷ []) ⌝ }
     ensures { λ r. ⌜ United (now (left .entry)) (now (right .entry)) (a .slots) (b .slots) (now (left .exit)) (now (right .exit)) (r .slots) ⌝ }
 {
     let mut slots = a.slots;
@@ -69,7 +70,7 @@ pub fn union(a: Bag, b: Bag, left: &mut [u16], right: &mut [u16]) -> Bag
 
 // BAG-SPLIT but for the pennant in slot 0, which is in neither half.
 fn shift(bag: Bag, left: &mut [u16], right: &[u16]) -> Halves
-    requires { ⌜ Pool (now left) (now right) (bag .slots ∷ []) ⌝ }
+    requires { ⌜ Pooled (now left) (now right) (bag .slots ∷ []) ⌝ }
     ensures { λ r. ⌜ Shifted (now (left .entry)) (now (right .entry)) (bag .slots) (now (left .exit)) (r .first .slots) (r .second .slots) ⌝ }
 {
     let slots = bag.slots;
@@ -90,7 +91,7 @@ fn shift(bag: Bag, left: &mut [u16], right: &[u16]) -> Halves
 
 // BAG-SPLIT.
 pub fn split(bag: Bag, left: &mut [u16], right: &mut [u16]) -> Halves
-    requires { ⌜ Pool (now left) (now right) (bag .slots ∷ []) ⌝ }
+    requires { ⌜ Pooled (now left) (now right) (bag .slots ∷ []) ⌝ }
     ensures { λ r. ⌜ SplitInto (now (left .entry)) (now (right .entry)) (bag .slots) (now (left .exit)) (now (right .exit)) (r .first .slots) (r .second .slots) ⌝ }
 {
     let slots = bag.slots;
@@ -109,7 +110,7 @@ pub fn split(bag: Bag, left: &mut [u16], right: &mut [u16]) -> Halves
 
 // Splits the pennant in slot k for k times, always keeping the root; the halves fill the slots below.
 fn spill(bag: Bag, from: usize, left: &mut [u16], right: &[u16]) -> Bag
-    requires { ⌜ Pool (now left) (now right) (bag .slots ∷ []) ⌝ }
+    requires { ⌜ Pooled (now left) (now right) (bag .slots ∷ []) ⌝ }
     requires { ⌜ from < 16 ⌝ }
     requires { ⌜ (getD (bag .slots) from 0 ≡ 0 → ⊥) ⌝ }
     ensures { λ r. ⌜ Spilled (now (left .entry)) (now (right .entry)) (bag .slots) from (now (left .exit)) (r .slots) ⌝ }
@@ -127,7 +128,7 @@ fn spill(bag: Bag, from: usize, left: &mut [u16], right: &[u16]) -> Bag
 
 // Takes the root of the pennant in the lowest filled slot and frees its node.
 pub fn take(bag: Bag, left: &mut [u16], right: &[u16], number: &[u16]) -> Taken
-    requires { ⌜ Pool (now left) (now right) (bag .slots ∷ []) ⌝ }
+    requires { ⌜ Pooled (now left) (now right) (bag .slots ∷ []) ⌝ }
     requires { ⌜ length (now left) ≤ length (now number) ⌝ }
     requires { ⌜ isEmpty (nodesOf (now left) (now right) (bag .slots)) ≡ false ⌝ }
     ensures { λ r. ⌜ TakenFrom (now (left .entry)) (now (right .entry)) (now (number .entry)) (bag .slots) (now (left .exit)) (r .bag .slots) (r .number) ⌝ }

@@ -10,6 +10,7 @@ use Rattle.pennant.specs.Pennant.{null, Slot, gap, tip, pennantUnion, pe
 abbrev pub slotCount : ℕ
 slotCount = 16
 
+-- "a collection of pennants, no two of which have the same size": its backbone
 abbrev pub Bag : Type 0
 Bag = List Slot
 
@@ -95,6 +96,7 @@ takenNumber [] = 0
 takenNumber (gap ∷ s) = takenNumber s
 takenNumber (tip a t ∷ s) = a
 
+-- whether a slot is empty
 abbrev pub isGap : Slot → Bool
 isGap gap = true
 isGap (tip a t) = false

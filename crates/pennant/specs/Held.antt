@@ -6,10 +6,12 @@ use lib.Dec.{eqb}
 use Rattle.pennant.specs.Pennant.{Tree, null, node, Slot, gap, tip}
 use Rattle.pennant.specs.Bag.{Bag}
 
+-- the numbers of a tree
 unfoldable pub treeItems : Tree → List ℕ
 treeItems null = []
 treeItems (node a l r) = a ∷ treeItems l ++ treeItems r
 
+-- the numbers of a pennant, its root first
 unfoldable pub slotItems : Slot → List ℕ
 slotItems gap = []
 slotItems (tip a t) = a ∷ treeItems t
@@ -19,15 +21,17 @@ unfoldable pub items : Bag → List ℕ
 items [] = []
 items (x ∷ s) = slotItems x ++ items s
 
+-- the sum of f over the numbers of a tree
 unfoldable pub weighTree : (ℕ → ℕ) → Tree → ℕ
 weighTree f null = 0
 weighTree f (node a l r) = f a + (weighTree f l + weighTree f r)
 
+-- the same over those of a pennant
 unfoldable pub weighSlot : (ℕ → ℕ) → Slot → ℕ
 weighSlot f gap = 0
 weighSlot f (tip a t) = f a + weighTree f t
 
--- the sum of f over the numbers held
+-- the sum of f over the numbers held, each as often as it is held
 unfoldable pub weigh : (ℕ → ℕ) → Bag → ℕ
 weigh f [] = 0
 weigh f (x ∷ s) = weighSlot f x + weigh f s
@@ -60,6 +64,7 @@ abbrev pub Pennant : ℕ → Slot → Type 0
 Pennant k gap = Unit {0}
 Pennant k (tip a t) = Complete k t
 
+-- slots from slot k on
 abbrev pub ShapedFrom : ℕ → Bag → Type 0
 ShapedFrom k [] = Unit {0}
 ShapedFrom k (x ∷ s) = Pennant k x × ShapedFrom (suc k) s
@@ -68,14 +73,16 @@ ShapedFrom k (x ∷ s) = Pennant k x × ShapedFrom (suc k) s
 abbrev pub Shaped : Bag → Type 0
 Shaped s = ShapedFrom 0 s
 
+-- a tree with f a in the place of each number a
 unfoldable pub mapTree : (ℕ → ℕ) → Tree → Tree
 mapTree f null = null
 mapTree f (node a l r) = node (f a) (mapTree f l) (mapTree f r)
 
+-- a pennant with the same
 unfoldable pub mapSlot : (ℕ → ℕ) → Slot → Slot
 mapSlot f gap = gap
 mapSlot f (tip a t) = tip (f a) (mapTree f t)
 
--- the same trees with f a in the place of each number a
+-- a bag with the same: the same trees
 unfoldable pub mapBag : (ℕ → ℕ) → Bag → Bag
 mapBag f s = map (mapSlot f) s

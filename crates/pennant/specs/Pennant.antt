@@ -11,19 +11,20 @@ pub data Slot : Type 0 where
   gap : Slot
   tip : ℕ → Tree → Slot
 
--- PENNANT-UNION(x, y): "y.right = x.left, x.left = y, return x"
+-- PENNANT-UNION(x, y): "y.right = x.left, x.left = y, return x"; where one of the two is missing, the other
 unfoldable pub pennantUnion : Slot → Slot → Slot
 pennantUnion gap y = y
 pennantUnion (tip a x) gap = tip a x
 pennantUnion (tip a x) (tip b y) = tip a (node b y x)
 
--- PENNANT-SPLIT(x), what x is afterwards: "y = x.left, x.left = y.right"
+-- PENNANT-SPLIT(x), what x is afterwards: "y = x.left, x.left = y.right". "We assume that the input pennant contains at least 2 elements": a
+-- smaller one stays as it is
 unfoldable pub pennantKept : Slot → Slot
 pennantKept gap = gap
 pennantKept (tip a null) = tip a null
 pennantKept (tip a (node b y x)) = tip a x
 
--- PENNANT-SPLIT(x), what it returns: "y = x.left, .. y.right = NULL, return y"
+-- PENNANT-SPLIT(x), what it returns: "y = x.left, .. y.right = NULL, return y"; of a smaller one nothing
 unfoldable pub pennantHalf : Slot → Slot
 pennantHalf gap = gap
 pennantHalf (tip a null) = gap

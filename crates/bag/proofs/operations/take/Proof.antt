@@ -3,8 +3,8 @@ use borrow.Author.Needs.{needs}
 use native.Mathlib.Omega.{arith}
 use mathlib.Core.Path.{_≡_}
 use lib.ListN.{length}
-use Rattle.bag.proofs.FilledFacts.{lowest}
-use Rattle.bag.proofs.Outcomes.{taken-within, took}
+use Rattle.bag.proofs.FilledFacts.{lowest-found}
+use Rattle.bag.proofs.Outcomes.{taken-within, takes}
 use Rattle.bag.proofs.operations.take.Statement.{statement}
 use Rattle.bag.proofs.operations.take.Tie as tie
 
@@ -17,7 +17,7 @@ mul-root c =
     let a = start .args in
     let found = c .first-filled in
     let long : length (a .bag .slots) ≡ 16 = search needs in
-    let low = lowest (a .left .now) (a .right .now) (a .bag .slots) (found .ensures) (start .pre .1 .1) in
+    let low = lowest-found (a .left .now) (a .right .now) (a .bag .slots) (found .ensures) (start .pre .1 .1) in
     omega (arith, low .within)
 
 array-read-root : tie.Need-array-read-root
@@ -26,7 +26,7 @@ array-read-root c =
     let a = start .args in
     let found = c .first-filled in
     let long : length (a .bag .slots) ≡ 16 = search needs in
-    let low = lowest (a .left .now) (a .right .now) (a .bag .slots) (found .ensures) (start .pre .1 .1) in
+    let low = lowest-found (a .left .now) (a .right .now) (a .bag .slots) (found .ensures) (start .pre .1 .1) in
     omega (arith, low .within)
 
 spill-requires : tie.Need-spill-requires
@@ -35,7 +35,7 @@ spill-requires c κs =
     let a = start .args in
     let found = c .before .first-filled in
     let long : length (a .bag .slots) ≡ 16 = search needs in
-    let low = lowest (a .left .now) (a .right .now) (a .bag .slots) (found .ensures) (start .pre .1 .1) in
+    let low = lowest-found (a .left .now) (a .right .now) (a .bag .slots) (found .ensures) (start .pre .1 .1) in
     (start .pre .0, (omega (arith, low .within), low .some))
 
 release-requires : tie.Need-release-requires
@@ -44,7 +44,7 @@ release-requires c κs =
     let a = start .args in
     let found = c .before .before .before .before .before .first-filled in
     let long : length (a .bag .slots) ≡ 16 = search needs in
-    let low = lowest (a .left .now) (a .right .now) (a .bag .slots) (found .ensures) (start .pre .1 .1) in
+    let low = lowest-found (a .left .now) (a .right .now) (a .bag .slots) (found .ensures) (start .pre .1 .1) in
     omega (arith, taken-within (a .left .now) (a .right .now) (a .bag .slots) (start .pre .0) long (start .pre .1 .1) (found .result) low, c .before .before .before .spill .kept .1 .1 .0)
 
 at-requires : tie.Need-at-requires
@@ -53,7 +53,7 @@ at-requires c κs =
     let a = start .args in
     let found = c .before .before .before .before .before .before .before .before .first-filled in
     let long : length (a .bag .slots) ≡ 16 = search needs in
-    let low = lowest (a .left .now) (a .right .now) (a .bag .slots) (found .ensures) (start .pre .1 .1) in
+    let low = lowest-found (a .left .now) (a .right .now) (a .bag .slots) (found .ensures) (start .pre .1 .1) in
     omega (arith, taken-within (a .left .now) (a .right .now) (a .bag .slots) (start .pre .0) long (start .pre .1 .1) (found .result) low, start .pre .1 .0)
 
 same-length : tie.Need-same-length
@@ -65,9 +65,9 @@ returns c =
     let a = start .args in
     let found = c .before .before .before .before .before .before .before .before .before .first-filled in
     let long : length (a .bag .slots) ≡ 16 = search needs in
-    let low = lowest (a .left .now) (a .right .now) (a .bag .slots) (found .ensures) (start .pre .1 .1) in
+    let low = lowest-found (a .left .now) (a .right .now) (a .bag .slots) (found .ensures) (start .pre .1 .1) in
     let spilled = c .before .before .before .before .before .before .before .spill in
-    took (a .left .now) (a .right .now) (a .bag .slots) (start .pre .0) long (start .pre .1 .1) (found .result) low (spilled .last .1 .1 .0) (spilled .result .slots) (spilled .ensures) (spilled .kept .1 .1 .0)
+    takes (a .left .now) (a .right .now) (a .bag .slots) (start .pre .0) long (start .pre .1 .1) (found .result) low (spilled .last .1 .1 .0) (spilled .result .slots) (spilled .ensures) (spilled .kept .1 .1 .0)
     (a .number .now) (c .before .before .before .release .ensures) (c .at .ensures)
 
 pub take-spec : {M : Type 1} → statement M

@@ -4,7 +4,7 @@ use native.Mathlib.Omega.{arith}
 use mathlib.Core.Path.{_≡_}
 use Prim.Native.Nat.{_-_}
 use lib.ListN.{length}
-use Rattle.bag.proofs.Outcomes.{united}
+use Rattle.bag.proofs.Outcomes.{unites}
 use Rattle.bag.proofs.UnionFacts.{uniting-slot, uniting-other, uniting-carry, Uniting, uniting-start, uniting-three, uniting-step, uniting-done}
 use Rattle.bag.proofs.operations.union.Statement.{statement}
 use Rattle.bag.proofs.operations.union.Tie as tie
@@ -84,7 +84,7 @@ returns c =
     let a = start .args in
     let now = at-loop .loop in
     let long : length (a .b .slots) ≡ 16 = search needs in
-    united (a .left .now) (a .right .now) (a .a .slots) (a .b .slots) (now .left) (now .right) (now .slots) (start .pre)
+    unites (a .left .now) (a .right .now) (a .a .slots) (a .b .slots) (now .left) (now .right) (now .slots) (start .pre)
     (uniting-done (a .left .now) (a .right .now) (a .a .slots) (a .b .slots) (start .pre) long (now .left) (now .right) (now .slots) (now .carry) (now .k) (now .inv) (search needs)) (now .inv .kept) (now .inv .left-length) (now .inv .right-length)
 
 pub union-spec : {M : Type 1} → statement M

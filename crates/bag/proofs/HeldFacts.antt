@@ -1,0 +1,46 @@
+-- The numbers held by a bag of nodes, for crates that speak of numbers and not of nodes: emptiness, size, shape, and the empty bag.
+use Prim.Native.Nat.{ℕ}
+use mathlib.Core.Path.{_≡_, ap, _∙_}
+use mathlib.Core.List.{List}
+use lib.ListN.{length, getD}
+use Rattle.pennant.specs.Bag.{isEmpty, atLeastTwo, emptyBag}
+use Rattle.pennant.specs.Held.{weigh, size, one, Shaped, mapBag}
+use Rattle.pennant.proofs.Laws.{map-is-empty, map-at-least-two, map-empty, map-length, weigh-map, shaped-map}
+use Rattle.bag.specs.Nodes.{nodesOf, heldBy, emptySlots}
+use Rattle.bag.proofs.Kept.{nodes-shaped, length-nodes}
+use Rattle.bag.proofs.Free.{nodes-empty}
+
+module _ (left right number slots : List ℕ) where
+  -- numbers are held where there are nodes
+  pub held-empty : isEmpty (heldBy left right number slots) ≡ isEmpty (nodesOf left right slots)
+  unfolding heldBy
+  held-empty = map-is-empty (λ x. getD number x 0) (nodesOf left right slots)
+
+  -- at least two numbers where there are at least two nodes
+  pub held-two : atLeastTwo (heldBy left right number slots) ≡ atLeastTwo (nodesOf left right slots)
+  unfolding heldBy
+  held-two = map-at-least-two (λ x. getD number x 0) (nodesOf left right slots)
+
+  -- a weight of the numbers is one of the nodes
+  pub held-weigh : (f : ℕ → ℕ) → weigh f (heldBy left right number slots) ≡ weigh (λ x. f (getD number x 0)) (nodesOf left right slots)
+  unfolding heldBy
+  held-weigh f = weigh-map f (λ x. getD number x 0) (nodesOf left right slots)
+
+  -- as many numbers as nodes
+  pub held-size : size (heldBy left right number slots) ≡ weigh one (nodesOf left right slots)
+  held-size = held-weigh one
+
+  -- slot k is empty or holds 2^k numbers
+  pub held-shaped : Shaped (heldBy left right number slots)
+  unfolding heldBy
+  held-shaped = shaped-map (λ x. getD number x 0) (nodesOf left right slots) (nodes-shaped left right slots)
+
+  -- as many slots
+  pub held-length : length (heldBy left right number slots) ≡ length slots
+  unfolding heldBy
+  held-length = map-length (λ x. getD number x 0) (nodesOf left right slots) ∙ length-nodes left right slots
+
+-- an empty bag
+pub held-none : (left right number : List ℕ) → heldBy left right number emptySlots ≡ emptyBag
+unfolding heldBy
+held-none left right number = ap (mapBag (λ x. getD number x 0)) (nodes-empty left right) ∙ map-empty (λ x. getD number x 0)
