@@ -1,5 +1,5 @@
 -- The full adder on the lists: the table's rule, over all eight rows.
-use Prim.Native.Nat.{ℕ, zero, suc, _+_, _*_, _≤_, _<_}
+use Prim.Native.Nat.{ℕ, zero, suc, _+_, _*_, _<_}
 use native.Mathlib.Omega.{arith}
 use mathlib.Core.Path.{_≡_, refl}
 use mathlib.Core.Bool.{Bool, true, false, not, _&&_, and-eq-true-iff}
@@ -11,7 +11,7 @@ use Rattle.lists.specs.Lists.{sumOf, reaches}
 use Rattle.lists.proofs.Tests.{reaches-at}
 use Rattle.pennant.specs.Bag.{adderSum, adderCarry}
 use Rattle.bag.specs.Nodes.{pennantAt}
-use Rattle.bag.specs.Adder.{bit, rowOf, term, adderTable, entryAt}
+use Rattle.bag.specs.Table.{present, rowOf, term, adderTable, entryAt}
 use Rattle.bag.specs.Steps.{linkedLeft, linkedRight, Pennants, Added}
 use Rattle.bag.proofs.Only.{in-pool-once}
 use Rattle.bag.proofs.Kept.{pennant-kept}
@@ -21,27 +21,16 @@ use Rattle.bag.proofs.Pairs.{link-pennant, link-kept}
 abbrev pub columnOf : ℕ → ℕ → ℕ → ℕ → ℕ
 columnOf column x y z = term x y z (entryAt (rowOf x y z) column)
 
--- a pennant is there or not
-pub bit-most : (x : ℕ) → bit x ≤ 1
-unfolding bit
-bit-most zero = omega arith
-bit-most (suc x) = omega arith
-
 -- a node is there
-pub bit-some : (x : ℕ) → (x ≡ 0 → ⊥) → 1 ≡ bit x
-unfolding bit
-bit-some zero h = absurd (h refl)
-bit-some (suc x) h = refl
+pub present-some : (x : ℕ) → (x ≡ 0 → ⊥) → 1 ≡ present x
+unfolding present
+present-some zero h = absurd (h refl)
+present-some (suc x) h = refl
 
 -- the row as the code counts it
-pub row-whole : (x y z : ℕ) {a b c : ℕ} → a ≡ bit x → b ≡ bit y → c ≡ bit z → a + 2 * b + 4 * c ≡ rowOf x y z
+pub row-whole : (x y z : ℕ) {a b c : ℕ} → a ≡ present x → b ≡ present y → c ≡ present z → a + 2 * b + 4 * c ≡ rowOf x y z
 unfolding rowOf
 row-whole x y z p q r = rw (p, q, r)
-
--- there are eight rows
-pub row-most : (x y z : ℕ) → rowOf x y z < 8
-unfolding rowOf
-row-most x y z = omega (arith, bit-most x, bit-most y, bit-most z)
 
 -- whether each row has three entries, each of them below four
 tabled : List (List ℕ) → Bool
@@ -107,7 +96,7 @@ module _ (left right : List ℕ) (k : ℕ) where
   -- each row of the table is 000's
   pub add-rows : (x y z : ℕ) → Pennants left right k (x ∷ y ∷ z ∷ [])
       → Added left right k x y z (linkedLeft (columnOf 1 x y z) (columnOf 2 x y z) left) (linkedRight (columnOf 1 x y z) (columnOf 2 x y z) left right) (columnOf 0 x y z) (columnOf 1 x y z)
-  unfolding bit rowOf linkedLeft linkedRight pennantAt adderSum adderCarry sumOf
+  unfolding present rowOf linkedLeft linkedRight pennantAt adderSum adderCarry sumOf
   add-rows zero zero zero p = record { sum = refl; carried = refl; kept-left = λ i c. refl; kept-right = λ i c. refl }
   add-rows (suc x) zero zero p = record { sum = refl; carried = refl; kept-left = λ i c. refl; kept-right = λ i c. refl }
   add-rows zero (suc y) zero p = record { sum = refl; carried = refl; kept-left = λ i c. refl; kept-right = λ i c. refl }

@@ -1,13 +1,17 @@
 -- The operations on a backbone at slot k: what is before k is done, what is from k on is still to do.
 use Prim.Native.Nat.{ℕ, zero, suc, _+_, _<_}
 use native.Mathlib.Omega.{arith}
-use mathlib.Core.Path.{_≡_, refl, sym, ap}
+use mathlib.Core.Path.{_≡_, refl, sym, ap, _∙_}
 use mathlib.Core.Bool.{true, false, true≢false}
-use mathlib.Core.List.{[], _∷_, _++_}
+use mathlib.Core.List.{List, [], _∷_, _++_}
 use lib.ListN.{length, getD, take, drop, set}
+use Rattle.lists.specs.Lists.{sumOf}
+use Rattle.lists.proofs.Sums.{sum-set}
 use Rattle.pennant.specs.Pennant.{Slot, gap, tip, pennantUnion}
 use Rattle.pennant.specs.Bag.{Bag, isGap, insertPennant, insertFilled, adderSum, adderCarry, addFrom}
 use Rattle.pennant.specs.Held.{weigh, weighSlot}
+use Rattle.bag.specs.Nodes.{pennantAt, nodesOf}
+use Rattle.bag.proofs.Kept.{length-nodes, nodes-at, nodes-set}
 
 -- an insertion goes on past a filled slot
 pub insert-pass : (k : ℕ) (x : Slot) (s : Bag) → k < length s → isGap (getD s k gap) ≡ false
@@ -46,28 +50,34 @@ add-end (suc k) [] t h g = absurd (omega arith)
 add-end (suc k) (x ∷ s) [] h g = absurd (omega arith)
 add-end (suc k) (x ∷ s) (y ∷ t) h g = ap (λ (l : Bag). x ∷ l) (add-end k s t (omega arith) (omega arith))
 
--- from a slot that is replaced on
-pub drop-set : (k : ℕ) (s : Bag) (y : Slot) → k < length s → drop k (set s k y) ≡ y ∷ drop (suc k) s
-drop-set k [] y h = absurd (omega arith)
-drop-set zero (x ∷ s) y h = refl
-drop-set (suc k) (x ∷ s) y h = drop-set k s y (omega arith)
-
 -- weights of a backbone: the slots before k and those from k on, one slot replaced, slot k and those after it
 module _ (f : ℕ → ℕ) where
   pub weigh-parts : (k : ℕ) (s : Bag) → weigh f (take k s) + weigh f (drop k s) ≡ weigh f s
-  unfolding weigh
+  unfolding weigh sumOf
   weigh-parts zero s = omega arith
   weigh-parts (suc k) [] = omega arith
   weigh-parts (suc k) (x ∷ s) = omega (arith, weigh-parts k s)
 
   pub weigh-set : (k : ℕ) (s : Bag) (y : Slot) → k < length s → weigh f (set s k y) + weighSlot f (getD s k gap) ≡ weigh f s + weighSlot f y
   unfolding weigh
-  weigh-set k [] y h = absurd (omega arith)
-  weigh-set zero (x ∷ s) y h = omega arith
-  weigh-set (suc k) (x ∷ s) y h = omega (arith, weigh-set k s y (omega arith))
+  weigh-set k s y h = sum-set (weighSlot f) s k y gap h
 
   pub weigh-next : (k : ℕ) (s : Bag) → k < length s → weigh f (drop k s) ≡ weighSlot f (getD s k gap) + weigh f (drop (suc k) s)
-  unfolding weigh
+  unfolding weigh sumOf
   weigh-next k [] h = absurd (omega arith)
   weigh-next zero (x ∷ s) h = refl
   weigh-next (suc k) (x ∷ s) h = weigh-next k s (omega arith)
+
+-- The same of a bag of nodes.
+module _ (left right slots : List ℕ) (k : ℕ) (h : k < length slots) (f : ℕ → ℕ) where
+  within : k < length (nodesOf left right slots)
+  within = rw (length-nodes left right slots) h
+
+  -- slot k emptied, and what it held
+  pub slot-weighs : weigh f (nodesOf left right (set slots k 0)) + weighSlot f (pennantAt left right k (getD slots k 0)) ≡ weigh f (nodesOf left right slots)
+  unfolding pennantAt weighSlot
+  slot-weighs = rw (nodes-set left right slots k 0, ← (nodes-at left right slots k)) (weigh-set f k (nodesOf left right slots) gap within ∙ omega arith)
+
+  -- slot k and those after it
+  pub next-weighs : weigh f (drop k (nodesOf left right slots)) ≡ weighSlot f (pennantAt left right k (getD slots k 0)) + weigh f (drop (suc k) (nodesOf left right slots))
+  next-weighs = rw (nodes-at left right slots k) at (weigh-next f k (nodesOf left right slots) within)

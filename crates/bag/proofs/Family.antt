@@ -1,19 +1,19 @@
 -- A family of bags over one pool: what an operation on one or two of the bags requires, and that it leaves the others as they were.
-use Prim.Native.Nat.{ℕ, zero, suc, _+_, _≤_, _<_}
+use Prim.Native.Nat.{ℕ, _+_, _≤_, _<_}
 use native.Mathlib.Omega.{arith}
-use mathlib.Core.Path.{_≡_, sym, ap, _∙_}
+use mathlib.Core.Path.{_≡_, refl, sym, ap, _∙_}
 use mathlib.Core.Bool.{true}
 use mathlib.Core.List.{List, [], _∷_, map}
 use lib.ListN.{length, getD, set, length-set}
 use lib.Seq.{getD-set-same, getD-set-other, set-set}
 use Rattle.lists.specs.Lists.{sumOf}
-use Rattle.lists.proofs.Sums.{sum-set, sum-same}
+use Rattle.lists.proofs.Sums.{sum-set, sum-at, sum-same}
 use Rattle.lists.proofs.Replaced.{map-set, map-agree, set-two-again}
 use Rattle.pennant.specs.Bag.{Bag, isEmpty}
-use Rattle.pennant.specs.Held.{weigh, only, count}
+use Rattle.pennant.specs.Held.{weigh, only, copies}
 use Rattle.pennant.proofs.Laws.{empty-weighs, map-same}
 use Rattle.bag.specs.Nodes.{slotsFrom, nodesOf, heldBy, emptySlots}
-use Rattle.bag.specs.Promises.{weighNodes, uses, Pooled, Moved}
+use Rattle.bag.specs.Promises.{inPool, weighNodes, uses, Pooled, Moved}
 use Rattle.bag.proofs.Only.{in-pool-once, in-pool-within}
 use Rattle.bag.proofs.Kept.{nodes-kept}
 use Rattle.bag.proofs.Free.{empty-weight}
@@ -29,6 +29,12 @@ moved-pool pool moved = record {
   apart = λ x. rw (moved .nodes (only x), moved .left-length) (pool .apart x);
 }
 
+-- where each node stood in exactly one place, it still does: free chain and bags partition the nodes
+pub moved-whole : {left right left′ right′ : List ℕ} {bags bags′ : List (List ℕ)} (places : ℕ) → ((x : ℕ) → uses x left right bags ≡ inPool places x)
+    → Moved left right bags left′ right′ bags′
+    → (x : ℕ) → uses x left′ right′ bags′ ≡ inPool places x
+moved-whole places whole moved x = moved .nodes (only x) ∙ whole x
+
 -- a bag that is empty may stand beside the one that is split
 pub split-two : {left right left′ right′ slots : List ℕ} {bags′ : List (List ℕ)} (b : List ℕ) → isEmpty (nodesOf left right b) ≡ true
     → Moved left right (slots ∷ []) left′ right′ bags′
@@ -37,7 +43,7 @@ unfolding weighNodes sumOf
 split-two {left} {right} {slots} b empty moved = record {
   nodes = λ f. moved .nodes f ∙ omega (arith, none f);
   kept-left = λ x h c. moved .kept-left x h (omega (arith, none (only x)));
-  kept-right = λ x h c. moved .kept-right x h (omega (arith, none (only x)));
+  kept-right = λ x c. moved .kept-right x (omega (arith, none (only x)));
   left-length = moved .left-length;
   right-length = moved .right-length;
 }
@@ -47,14 +53,12 @@ split-two {left} {right} {slots} b empty moved = record {
 
 -- a bag of a family weighs no more than the family
 bag-within : (f : ℕ → ℕ) (left right : List ℕ) (bags : List (List ℕ)) (m : ℕ) → weigh f (nodesOf left right (getD bags m [])) ≤ weighNodes f left right bags
-unfolding weighNodes sumOf nodesOf slotsFrom weigh
-bag-within f left right [] m = omega arith
-bag-within f left right (slots ∷ bags) zero = omega arith
-bag-within f left right (slots ∷ bags) (suc m) = omega (arith, bag-within f left right bags m)
+unfolding weighNodes nodesOf slotsFrom weigh sumOf
+bag-within f left right bags m = sum-at (λ (slots : List ℕ). weigh f (nodesOf left right slots)) bags m [] refl
 
 -- a bag whose tree and whose numbers are as they were
 pub held-kept : (left right left′ right′ number number′ slots : List ℕ) → nodesOf left′ right′ slots ≡ nodesOf left right slots
-    → ((x : ℕ) → 1 ≤ count x (nodesOf left right slots) → getD number′ x 0 ≡ getD number x 0)
+    → ((x : ℕ) → 1 ≤ copies x (nodesOf left right slots) → getD number′ x 0 ≡ getD number x 0)
     → heldBy left′ right′ number′ slots ≡ heldBy left right number slots
 unfolding heldBy
 held-kept left right left′ right′ number number′ slots same agree =
@@ -83,7 +87,7 @@ pub record FamilyAfter (left right left′ right′ : List ℕ) (bags bags′ : 
 
 module _ {left right left′ right′ : List ℕ} {bags part part′ : List (List ℕ)} (rest : List (List ℕ)) (pool : Pooled left right bags) (parts : Parts bags part rest) (moved : Moved left right part left′ right′ part′) where
   -- a node of the rest is none of those that move
-  rest-off : (m x : ℕ) → 1 ≤ count x (nodesOf left right (getD rest m [])) → (0 < x) × (uses x left right part ≡ 0)
+  rest-off : (m x : ℕ) → 1 ≤ copies x (nodesOf left right (getD rest m [])) → (0 < x) × (uses x left right part ≡ 0)
   rest-off m x h =
       let inside = bag-within (only x) left right rest m in
       let whole = parts (only x) left right in
@@ -94,7 +98,7 @@ module _ {left right left′ right′ : List ℕ} {bags part part′ : List (Lis
   rest-kept : (m : ℕ) → nodesOf left′ right′ (getD rest m []) ≡ nodesOf left right (getD rest m [])
   rest-kept m =
       nodes-kept left right left′ right′ (getD rest m [])
-      (λ i h. let off = rest-off m i h in (moved .kept-left i (off .0) (off .1), moved .kept-right i (off .0) (off .1)))
+      (λ i h. let off = rest-off m i h in (moved .kept-left i (off .0) (off .1), moved .kept-right i (off .1)))
 
   -- so the rest weighs what it did
   rest-weighs : (f : ℕ → ℕ) → weighNodes f left′ right′ rest ≡ weighNodes f left right rest
@@ -114,7 +118,7 @@ module _ {left right left′ right′ : List ℕ} {bags part part′ : List (Lis
   family-moved bags′ parts′ = record {
     nodes = λ f. omega (arith, parts f left right, parts′ f left′ right′, rest-weighs f, moved .nodes f);
     kept-left = λ x h c. moved .kept-left x h (omega (arith, parts (only x) left right));
-    kept-right = λ x h c. moved .kept-right x h (omega (arith, parts (only x) left right));
+    kept-right = λ x c. moved .kept-right x (omega (arith, parts (only x) left right));
     left-length = moved .left-length;
     right-length = moved .right-length;
   }

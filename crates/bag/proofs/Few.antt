@@ -1,20 +1,17 @@
 -- The pigeonhole: what is apart in a pool has fewer nodes than the pool has places.
-use Prim.Native.Nat.{ℕ, _-_, _^_, _≤_, _<_}
-use native.Mathlib.Nat.{pow-le-pow-right}
+use Prim.Native.Nat.{ℕ, _-_, _≤_, _<_}
 use native.Mathlib.Omega.{arith}
 use mathlib.Core.Path.{_≡_, refl, ap}
 use mathlib.Core.Bool.{Bool, true, false}
 use mathlib.Core.List.{List, [], _∷_}
-use lib.Dec.{ltb}
 use lib.ListN.{length}
-use borrow.Author.Tests.{ltb-true, ltb-false}
 use Rattle.lists.specs.Lists.{sumOf, elem, repeats}
 use Rattle.lists.proofs.Or.{not-so}
 use Rattle.lists.proofs.Tests.{elem-cases, repeats-cons, distinct-short}
 use Rattle.pennant.specs.Pennant.{Slot}
-use Rattle.pennant.specs.Bag.{isGap}
+use Rattle.pennant.specs.Bag.{isGap, slotCount}
 use Rattle.pennant.specs.Held.{one, only, slotItems, weighSlot, Pennant}
-use Rattle.pennant.proofs.Laws.{weigh-slot-items, only-self, pennant-size}
+use Rattle.pennant.proofs.Laws.{weigh-slot-items, only-self, pennant-size, power-below}
 use Rattle.bag.specs.Promises.{inPool}
 use Rattle.bag.proofs.Only.{in-pool-once, in-pool-within}
 
@@ -53,16 +50,6 @@ module _ (places : ℕ) where
   few-pennant x h =
       rw (weigh-slot-items one x, sum-one (slotItems x)) (few-nodes (slotItems x) (λ i. rw (weigh-slot-items (only i) x) at (h i)))
 
--- a power of two that is below 2^16
-exponent-below : (k : ℕ) → 2 ^ k ≤ 65535 → k < 16
-exponent-below k h = go (ltb k 16) refl
-  where
-    go : (b : Bool) → ltb k 16 ≡ b → k < 16
-    go true e = ltb-true k 16 e
-    go false e =
-        let large : 2 ^ 16 ≤ 2 ^ k = pow-le-pow-right (omega arith) (ltb-false k 16 e) in
-        absurd (omega arith)
-
 -- a pennant of nodes of a pool stands in one of 16 slots
 pub rank-below : (places k : ℕ) (x : Slot) → Pennant k x → isGap x ≡ false → ((i : ℕ) → weighSlot (only i) x ≤ inPool places i) → places ≤ 65536 → k < 16
-rank-below places k x shaped filled apart few = exponent-below k (omega (arith, few-pennant places x apart, pennant-size k x shaped filled))
+rank-below places k x shaped filled apart few = power-below k slotCount (omega (arith, few-pennant places x apart, pennant-size k x shaped filled))

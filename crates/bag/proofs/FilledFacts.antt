@@ -31,11 +31,16 @@ empty-first k zero xs e = refl
 empty-first k (suc x) xs e = absurd (omega arith)
 
 module _ (slots : List ℕ) (k : ℕ) where
+  -- slot k is found where it is filled
   pub filled-here : k < length slots → (getD slots k 0 ≡ 0 → ⊥) → firstFilled k (drop k slots) ≡ k
   filled-here h f = rw (drop-cons slots k 0 h) (filled-first k (getD slots k 0) (drop (suc k) slots) f)
 
+  -- slot k is passed where it is empty
+  filled-next : k < length slots → getD slots k 0 ≡ 0 → firstFilled k (drop k slots) ≡ firstFilled (suc k) (drop (suc k) slots)
+  filled-next h e = rw (drop-cons slots k 0 h) (empty-first k (getD slots k 0) (drop (suc k) slots) e)
+
   pub filled-pass : k < length slots → getD slots k 0 ≡ 0 → firstFilled k (drop k slots) ≡ firstFilled (k + 1) (drop (k + 1) slots)
-  filled-pass h e = rw (add-one k) (rw (drop-cons slots k 0 h) (empty-first k (getD slots k 0) (drop (suc k) slots) e))
+  filled-pass h e = rw (add-one k) (filled-next h e)
 
 -- past the end nothing is found
 pub filled-none : (slots : List ℕ) (k : ℕ) → length slots ≤ k → firstFilled k (drop k slots) ≡ k
@@ -101,7 +106,7 @@ module _ (left right : List ℕ) where
           let gone : drop k (nodesOf left right slots) ≡ gap ∷ drop (suc k) (nodesOf left right slots) =
           next ∙ ap (λ (x : Slot). x ∷ drop (suc k) (nodesOf left right slots)) (none-gap left right k (getD slots k 0) q) in
           let after : Lowest slots (suc k) (firstFilled (suc k) (drop (suc k) slots)) = lower (rw gone at f) in
-          let found : firstFilled k (drop k slots) ≡ firstFilled (suc k) (drop (suc k) slots) = rw (drop-cons slots k 0 within) (empty-first k (getD slots k 0) (drop (suc k) slots) q) in
+          let found : firstFilled k (drop k slots) ≡ firstFilled (suc k) (drop (suc k) slots) = filled-next slots k within q in
           rw found (record {
             within = after .within;
             some = after .some;

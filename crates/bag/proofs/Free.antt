@@ -3,20 +3,18 @@ use Prim.Native.Nat.{ℕ, zero, suc, _+_, _≤_, _<_}
 use native.Mathlib.Omega.{arith}
 use native.Mathlib.Nat.{zero-add, add-zero, add-suc, suc-add}
 use mathlib.Core.Path.{_≡_, refl, sym, ap, _∙_}
-use mathlib.Core.Bool.{Bool, true, false}
 use mathlib.Core.List.{List, [], _∷_, _++_}
-use lib.Dec.{eqb}
 use lib.ListN.{length, getD, set, drop, replicate, length-append, length-set, List·getD-append}
 use lib.Seq.{getD-set-same, getD-set-other, getD-at}
-use borrow.Author.Tests.{eqb-true, eqb-false}
-use Rattle.lists.specs.Lists.{sumOf, overlay, numbersFrom}
+use Rattle.lists.specs.Lists.{sumOf, overlay, numbersFrom, chainFrom}
+use Rattle.lists.proofs.Chains.{chain-none, chain-longer}
 use Rattle.lists.proofs.Tests.{length-range, getD-range}
 use Rattle.pennant.specs.Bag.{emptyBag}
 use Rattle.pennant.specs.Held.{weigh, one, only}
-use Rattle.pennant.proofs.Laws.{only-self, only-within, weigh-empty}
+use Rattle.pennant.proofs.Laws.{only-self, weigh-empty}
 use Rattle.bag.specs.Nodes.{pennantAt, slotsFrom, nodesOf, freeFrom, freeNodes, emptySlots}
-use Rattle.bag.specs.Promises.{inPool, weighNodes, weighFree, Pooled}
-use Rattle.bag.proofs.Only.{only-other, other-only, in-pool, in-pool-once, in-pool-within, in-pool-zero}
+use Rattle.bag.specs.Promises.{inPool, weighNodes, weighFree, uses, Pooled}
+use Rattle.bag.proofs.Only.{other-only, in-pool-once, in-pool-within, in-pool-zero, in-pool-past, in-pool-next, in-pool-more}
 use Rattle.bag.proofs.Few.{few-nodes, sum-one}
 
 -- Chains.
@@ -24,7 +22,7 @@ use Rattle.bag.proofs.Few.{few-nodes, sum-one}
 -- a chain whose nodes are as they were
 chain-kept : (left left′ : List ℕ) (steps x : ℕ) → ((i : ℕ) → 0 < i → 1 ≤ sumOf (only i) (freeFrom left steps x) → getD left′ i 0 ≡ getD left i 0)
     → freeFrom left′ steps x ≡ freeFrom left steps x
-unfolding freeFrom sumOf
+unfolding freeFrom sumOf chainFrom
 chain-kept left left′ zero x same = refl
 chain-kept left left′ (suc steps) zero same = refl
 chain-kept left left′ (suc steps) (suc x) same =
@@ -37,13 +35,11 @@ module _ (left : List ℕ) where
   -- a chain that ended before its steps did is the same with one step more
   free-more : (steps x : ℕ) → length (freeFrom left steps x) < steps → freeFrom left (suc steps) x ≡ freeFrom left steps x
   unfolding freeFrom
-  free-more zero x h = absurd (omega arith)
-  free-more (suc steps) zero h = refl
-  free-more (suc steps) (suc x) h = ap (λ (l : List ℕ). suc x ∷ l) (free-more steps (getD left (suc x) 0) (omega arith))
+  free-more steps x h = chain-longer (λ n. getD left n 0) steps (suc steps) x h (omega arith)
 
   -- with one step more it is no shorter
   free-longer : (steps x : ℕ) → length (freeFrom left steps x) ≤ length (freeFrom left (suc steps) x)
-  unfolding freeFrom
+  unfolding freeFrom chainFrom
   free-longer zero x = omega arith
   free-longer (suc steps) zero = omega arith
   free-longer (suc steps) (suc x) = omega (arith, free-longer steps (getD left (suc x) 0))
@@ -51,13 +47,12 @@ module _ (left : List ℕ) where
   -- 0 ends a chain
   free-none : (steps : ℕ) → freeFrom left steps 0 ≡ []
   unfolding freeFrom
-  free-none zero = refl
-  free-none (suc steps) = refl
+  free-none steps = chain-none (λ n. getD left n 0) steps
 
   -- a chain along consecutive places, which ends after k of them
   free-range : (steps a k : ℕ) → k ≤ steps → ((i : ℕ) → i < k → getD left (a + i) 0 ≡ suc (a + i)) → getD left (a + k) 0 ≡ 0
       → freeFrom left steps (getD left a 0) ≡ numbersFrom (suc a) k
-  unfolding freeFrom numbersFrom
+  unfolding freeFrom numbersFrom chainFrom
   free-range steps a zero h next last = rw (← add-zero a, last) (free-none steps)
   free-range zero a (suc k) h next last = absurd (omega arith)
   free-range (suc steps) a (suc k) h next last =
@@ -77,7 +72,7 @@ free-kept left left′ long first same = rw (long, first) (chain-kept left left�
 -- the first free node taken off the chain
 pub free-pop : (left : List ℕ) → (getD left 0 0 ≡ 0 → ⊥) → ((i : ℕ) → sumOf (only i) (freeNodes left) ≤ inPool (length left) i)
     → freeNodes left ≡ getD left 0 0 ∷ freeNodes (set left 0 (getD left (getD left 0 0) 0))
-unfolding freeNodes freeFrom
+unfolding freeNodes freeFrom chainFrom
 free-pop [] some apart = absurd (some refl)
 free-pop (zero ∷ rest) some apart = absurd (some refl)
 free-pop (suc x ∷ rest) some apart =
@@ -99,7 +94,7 @@ free-pop (suc x ∷ rest) some apart =
 -- a node put in front of the chain
 pub free-push : (left : List ℕ) (x : ℕ) → ((i : ℕ) → only i x + sumOf (only i) (freeNodes left) ≤ inPool (length left) i)
     → freeNodes (set (set left x (getD left 0 0)) 0 x) ≡ x ∷ freeNodes left
-unfolding freeNodes freeFrom sumOf
+unfolding freeNodes freeFrom sumOf chainFrom
 free-push left zero apart = absurd (omega (arith, apart 0, only-self 0, in-pool-zero (length left)))
 free-push [] (suc x) apart = absurd (omega (arith, in-pool-within 0 (suc x) (omega (arith, apart (suc x), only-self (suc x))) .1))
 free-push (first ∷ rest) (suc x) apart =
@@ -168,23 +163,12 @@ pub free-count : (left : List ℕ) (nodes : ℕ) → freeNodes left ≡ numbersF
 unfolding weighFree
 free-count left nodes e = ap (sumOf one) e ∙ sum-one (numbersFrom 1 nodes) ∙ length-range 1 nodes
 
--- a number below a range is not in it
-range-below : (x a n : ℕ) → x < a → sumOf (only x) (numbersFrom a n) ≡ 0
+-- the nodes up to a and those from there on
+range-whole : (x a n : ℕ) → sumOf (only x) (numbersFrom (suc a) n) + inPool (suc a) x ≡ inPool (suc (a + n)) x
 unfolding sumOf numbersFrom
-range-below x a zero h = refl
-range-below x a (suc n) h = omega (arith, only-other x a (λ (e : a ≡ x). omega arith), range-below x (suc a) n (omega arith))
-
--- a range of nodes has each at most once
-range-apart : (places x a n : ℕ) → 0 < a → a + n ≤ places → sumOf (only x) (numbersFrom a n) ≤ inPool places x
-unfolding sumOf numbersFrom
-range-apart places x a zero g h = omega arith
-range-apart places x a (suc n) g h = go (eqb a x) refl (range-apart places x (suc a) n (omega arith) (omega arith))
-  where
-    go : (b : Bool) → eqb a x ≡ b → sumOf (only x) (numbersFrom (suc a) n) ≤ inPool places x → only x a + sumOf (only x) (numbersFrom (suc a) n) ≤ inPool places x
-    go true e rest =
-        let here : a ≡ x = eqb-true a x e in
-        omega (arith, in-pool places x (omega arith) (omega arith), only-within x a, range-below x (suc a) n (omega arith))
-    go false e rest = omega (arith, only-other x a (eqb-false a x e))
+range-whole x a zero = rw (add-zero a) (omega arith)
+range-whole x a (suc n) =
+    omega (arith, range-whole x (suc a) n, in-pool-next a x, ap (λ (m : ℕ). inPool (suc m) x) (suc-add a n ∙ sym (add-suc a n)))
 
 module _ (left right : List ℕ) where
   -- an empty bag has no nodes
@@ -202,6 +186,19 @@ module _ (left right : List ℕ) where
   empties-weight f zero = refl
   empties-weight f (suc count) = omega (arith, empty-weight f, empties-weight f count)
 
+  -- in a new pool each node from 1 on stands in exactly one place, and nothing else does
+  pub pool-whole : (nodes count : ℕ) → freeNodes left ≡ numbersFrom 1 nodes → (x : ℕ) → uses x left right (replicate count emptySlots) ≡ inPool (suc nodes) x
+  unfolding weighFree
+  pool-whole nodes count chain x =
+      rw chain (omega (arith, empties-weight (only x) count, range-whole x 0 nodes, ap (λ (m : ℕ). inPool (suc m) x) (zero-add nodes), none))
+    where
+      none : inPool 1 x ≡ 0
+      none = first x
+        where
+          first : (x : ℕ) → inPool 1 x ≡ 0
+          first zero = in-pool-zero 1
+          first (suc x) = in-pool-past 1 (suc x) (omega arith)
+
   -- a new pool with any number of empty bags
   pub pool-free : (nodes count : ℕ) → freeNodes left ≡ numbersFrom 1 nodes → nodes < length left → length left ≤ 65536 → length left ≤ length right
       → Pooled left right (replicate count emptySlots)
@@ -210,5 +207,5 @@ module _ (left right : List ℕ) where
     some = omega arith;
     few = few;
     wide = wide;
-    apart = λ x. rw chain (omega (arith, empties-weight (only x) count, range-apart (length left) x 1 nodes (omega arith) (omega arith)));
+    apart = λ x. omega (arith, pool-whole nodes count chain x, in-pool-more (suc nodes) (length left) x h);
   }

@@ -1,14 +1,18 @@
--- The numbers held by a bag of nodes, for crates that speak of numbers and not of nodes: emptiness, size, shape, and the empty bag.
-use Prim.Native.Nat.{ℕ}
-use mathlib.Core.Path.{_≡_, ap, _∙_}
-use mathlib.Core.List.{List}
+-- The numbers held by a bag of nodes, for crates that speak of numbers and not of nodes: emptiness, size, shape, the empty bag, and room for
+-- one more.
+use Prim.Native.Nat.{ℕ, _+_, _<_}
+use native.Mathlib.Omega.{arith}
+use mathlib.Core.Path.{_≡_, refl, ap, _∙_}
+use mathlib.Core.List.{List, [], _∷_, map}
 use lib.ListN.{length, getD}
+use Rattle.lists.specs.Lists.{sumOf}
 use Rattle.pennant.specs.Bag.{isEmpty, atLeastTwo, emptyBag}
 use Rattle.pennant.specs.Held.{weigh, size, one, Shaped, mapBag}
 use Rattle.pennant.proofs.Laws.{map-is-empty, map-at-least-two, map-empty, map-length, weigh-map, shaped-map}
 use Rattle.bag.specs.Nodes.{nodesOf, heldBy, emptySlots}
+use Rattle.bag.specs.Promises.{weighNodes, weighFree}
 use Rattle.bag.proofs.Kept.{nodes-shaped, length-nodes}
-use Rattle.bag.proofs.Free.{nodes-empty}
+use Rattle.bag.proofs.Free.{nodes-empty, free-some}
 
 module _ (left right number slots : List ℕ) where
   -- numbers are held where there are nodes
@@ -39,6 +43,19 @@ module _ (left right number slots : List ℕ) where
   pub held-length : length (heldBy left right number slots) ≡ length slots
   unfolding heldBy
   held-length = map-length (λ x. getD number x 0) (nodesOf left right slots) ∙ length-nodes left right slots
+
+-- all the numbers that a family holds, by any weight of them
+pub family-weigh : (f : ℕ → ℕ) (left right number : List ℕ) (bags : List (List ℕ))
+    → sumOf (weigh f) (map (heldBy left right number) bags) ≡ weighNodes (λ x. f (getD number x 0)) left right bags
+unfolding weighNodes sumOf
+family-weigh f left right number [] = refl
+family-weigh f left right number (slots ∷ bags) = omega (arith, held-weigh left right number slots f, family-weigh f left right number bags)
+
+-- a family that holds fewer numbers than there are nodes in all leaves one free
+pub family-room : (left right number : List ℕ) (bags : List (List ℕ)) (total : ℕ) → weighNodes one left right bags + weighFree one left ≡ total
+    → sumOf size (map (heldBy left right number) bags) < total
+    → getD left 0 0 ≡ 0 → ⊥
+family-room left right number bags total whole few = free-some left (omega (arith, whole, few, family-weigh one left right number bags))
 
 -- an empty bag
 pub held-none : (left right number : List ℕ) → heldBy left right number emptySlots ≡ emptyBag

@@ -5,8 +5,9 @@ use native.Mathlib.Nat.{zero-add, add-zero, add-suc, suc-add}
 use mathlib.Core.Path.{_≡_, refl, sym, ap, _∙_}
 use mathlib.Core.List.{List, [], _∷_}
 use lib.ListN.{length, getD, take, drop, set}
+use Rattle.lists.specs.Lists.{sumOf}
 use Rattle.pennant.specs.Pennant.{gap}
-use Rattle.pennant.specs.Held.{weighTree, weighSlot, weigh, only, count, Complete, Pennant, ShapedFrom, Shaped}
+use Rattle.pennant.specs.Held.{weighTree, weighSlot, weigh, only, copies, Complete, Pennant, ShapedFrom, Shaped}
 use Rattle.bag.specs.Nodes.{treeAt, pennantAt, slotsFrom, nodesOf}
 use Rattle.pennant.proofs.Laws.{only-self}
 
@@ -35,17 +36,19 @@ module _ (left right left′ right′ : List ℕ) where
   pennant-kept k (suc x) same =
       rw (same (suc x) (omega (arith, only-self (suc x))) .0, tree-kept k (getD left (suc x) 0) (λ i h. same i (omega arith)))
 
+  -- slots from slot k on whose nodes are as they were
   pub slots-kept : (k : ℕ) (xs : List ℕ) → ((i : ℕ) → 1 ≤ weigh (only i) (slotsFrom left right k xs) → Same i) → slotsFrom left′ right′ k xs ≡ slotsFrom left right k xs
-  unfolding slotsFrom weigh
+  unfolding slotsFrom weigh sumOf
   slots-kept k [] same = refl
   slots-kept k (x ∷ xs) same = rw (pennant-kept k x (λ i h. same i (omega arith)), slots-kept (suc k) xs (λ i h. same i (omega arith)))
 
   -- a bag whose nodes are as they were
-  pub nodes-kept : (slots : List ℕ) → ((i : ℕ) → 1 ≤ count i (nodesOf left right slots) → Same i) → nodesOf left′ right′ slots ≡ nodesOf left right slots
+  pub nodes-kept : (slots : List ℕ) → ((i : ℕ) → 1 ≤ copies i (nodesOf left right slots) → Same i) → nodesOf left′ right′ slots ≡ nodesOf left right slots
   unfolding nodesOf
   nodes-kept slots same = slots-kept 0 slots same
 
 module _ (left right : List ℕ) where
+  -- as many slots as nodes are given
   pub length-slots : (k : ℕ) (xs : List ℕ) → length (slotsFrom left right k xs) ≡ length xs
   unfolding slotsFrom
   length-slots k [] = refl
@@ -58,24 +61,28 @@ module _ (left right : List ℕ) where
   slots-at k (x ∷ xs) zero = ap (λ (n : ℕ). pennantAt left right n x) (sym (add-zero k))
   slots-at k (x ∷ xs) (suc i) = slots-at (suc k) xs i ∙ ap (λ (n : ℕ). pennantAt left right n (getD xs i 0)) (suc-add k i ∙ sym (add-suc k i))
 
+  -- a slot replaced
   pub slots-set : (k : ℕ) (xs : List ℕ) (i y : ℕ) → slotsFrom left right k (set xs i y) ≡ set (slotsFrom left right k xs) i (pennantAt left right (k + i) y)
   unfolding slotsFrom
   slots-set k [] i y = refl
   slots-set k (x ∷ xs) zero y = rw add-zero
   slots-set k (x ∷ xs) (suc i) y = rw (slots-set (suc k) xs i y, suc-add k i, add-suc k i)
 
+  -- the slots from slot k + i on
   pub slots-drop : (k i : ℕ) (xs : List ℕ) → drop i (slotsFrom left right k xs) ≡ slotsFrom left right (k + i) (drop i xs)
   unfolding slotsFrom
   slots-drop k zero xs = rw add-zero
   slots-drop k (suc i) [] = refl
   slots-drop k (suc i) (x ∷ xs) = rw (slots-drop (suc k) i xs, suc-add k i, add-suc k i)
 
+  -- the first i slots
   pub slots-take : (k i : ℕ) (xs : List ℕ) → take i (slotsFrom left right k xs) ≡ slotsFrom left right k (take i xs)
   unfolding slotsFrom
   slots-take k zero xs = refl
   slots-take k (suc i) [] = refl
   slots-take k (suc i) (x ∷ xs) = rw (slots-take (suc k) i xs)
 
+  -- a tree that is read off k levels deep is complete
   tree-complete : (k x : ℕ) → Complete k (treeAt left right k x)
   unfolding treeAt
   tree-complete zero x = tt
@@ -87,6 +94,7 @@ module _ (left right : List ℕ) where
   pennant-shaped k zero = tt
   pennant-shaped k (suc x) = tree-complete k (getD left (suc x) 0)
 
+  -- slots that are read off have their shapes
   slots-shaped : (k : ℕ) (xs : List ℕ) → ShapedFrom k (slotsFrom left right k xs)
   unfolding slotsFrom
   slots-shaped k [] = tt
@@ -98,6 +106,7 @@ module _ (left right : List ℕ) where
     unfolding nodesOf
     nodes-shaped = slots-shaped 0 slots
 
+    -- as many slots as nodes are given
     pub length-nodes : length (nodesOf left right slots) ≡ length slots
     unfolding nodesOf
     length-nodes = length-slots 0 slots
@@ -107,14 +116,17 @@ module _ (left right : List ℕ) where
     unfolding nodesOf
     nodes-at k = slots-at 0 slots k ∙ ap (λ (n : ℕ). pennantAt left right n (getD slots k 0)) (zero-add k)
 
+    -- a slot replaced
     pub nodes-set : (k y : ℕ) → nodesOf left right (set slots k y) ≡ set (nodesOf left right slots) k (pennantAt left right k y)
     unfolding nodesOf
     nodes-set k y = slots-set 0 slots k y ∙ ap (λ (n : ℕ). set (slotsFrom left right 0 slots) k (pennantAt left right n y)) (zero-add k)
 
+    -- the slots from k on
     pub nodes-drop : (k : ℕ) → drop k (nodesOf left right slots) ≡ slotsFrom left right k (drop k slots)
     unfolding nodesOf
     nodes-drop k = slots-drop 0 k slots ∙ ap (λ (n : ℕ). slotsFrom left right n (drop k slots)) (zero-add k)
 
+    -- the slots before k
     pub nodes-take : (k : ℕ) → take k (nodesOf left right slots) ≡ nodesOf left right (take k slots)
     unfolding nodesOf
     nodes-take k = slots-take 0 k slots

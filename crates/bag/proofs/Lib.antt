@@ -1,4 +1,4 @@
--- Facts about bags on node lists that the proofs of the crate's functions go by, and what crates above use (Family).
+-- Facts about bags on node lists that the proofs of the crate's functions go by. Family, Free and HeldFacts are what crates above use.
 pub mod Only
 pub mod Kept
 pub mod Few

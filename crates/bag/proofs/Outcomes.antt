@@ -7,9 +7,9 @@ use mathlib.Core.List.{List, [], _∷_, _++_, map}
 use lib.ListN.{length, getD, drop, set, length-set}
 use lib.Seq.{getD-set-same, getD-set-other}
 use Rattle.lists.specs.Lists.{sumOf}
-use Rattle.pennant.specs.Pennant.{Slot, gap, tip, null, pennantKept, pennantHalf}
+use Rattle.pennant.specs.Pennant.{Slot, gap, tip, null, pennantFirst, pennantSecond}
 use Rattle.pennant.specs.Bag.{Bag, isEmpty, bagInsert, insertFilled, bagUnion, splitFirst, splitSecond, takeRest, takenNumber}
-use Rattle.pennant.specs.Held.{weighTree, weighSlot, weigh, only, count, mapBag}
+use Rattle.pennant.specs.Held.{weighTree, weighSlot, weigh, only, copies, mapBag}
 use Rattle.pennant.proofs.Laws.{only-self, weigh-insert, weigh-union, weigh-split, weigh-halves, weigh-end, weigh-rest, map-insert, map-union, map-first, map-second, map-rest, map-taken, map-same}
 use Rattle.bag.specs.Nodes.{pennantAt, treeAt, nodesOf, heldBy, freeNodes}
 use Rattle.bag.specs.Promises.{inPool, weighNodes, weighFree, uses, Pooled, Inserted, United, SplitInto, TakenFrom}
@@ -57,7 +57,7 @@ module _ (left right : List ℕ) where
     moved = record {
       nodes = λ f. omega (arith, ap (weigh f) e, weigh-union f (nodesOf left right a) (nodesOf left right b), empty-weight left′ right′ f, ap (sumOf f) free);
       kept-left = λ x h c. kept x (omega arith) .0;
-      kept-right = λ x h c. kept x (omega arith) .1;
+      kept-right = λ x c. kept x (omega arith) .1;
       left-length = ll;
       right-length = rl;
     };
@@ -68,7 +68,7 @@ module _ (left right : List ℕ) where
 
   -- split, from the two bags as trees
   splits : (slots left′ right′ first second : List ℕ) → Pooled left right (slots ∷ []) → nodesOf left′ right′ first ≡ splitFirst (nodesOf left right slots) → nodesOf left′ right′ second ≡ splitSecond (nodesOf left right slots)
-      → ((i : ℕ) → count i (nodesOf left right slots) ≡ 0 → Same left right left′ right′ i)
+      → ((i : ℕ) → copies i (nodesOf left right slots) ≡ 0 → Same left right left′ right′ i)
       → length left′ ≡ length left → length right′ ≡ length right → SplitInto left right slots left′ right′ first second
   unfolding heldBy weighNodes weighFree sumOf
   splits slots left′ right′ first second p e d kept ll rl = record {
@@ -80,7 +80,7 @@ module _ (left right : List ℕ) where
     moved = record {
       nodes = λ f. omega (arith, ap (weigh f) e, ap (weigh f) d, weigh-split f (nodesOf left right slots), ap (sumOf f) free);
       kept-left = λ x h c. kept x (omega arith) .0;
-      kept-right = λ x h c. kept x (omega arith) .1;
+      kept-right = λ x c. kept x (omega arith) .1;
       left-length = ll;
       right-length = rl;
     };
@@ -91,7 +91,7 @@ module _ (left right : List ℕ) where
 
   module _ (slots : List ℕ) (p : Pooled left right (slots ∷ [])) (l : length slots ≡ 16) where
     -- each node of the bag is in it once
-    pool-once : (i : ℕ) → count i (nodesOf left right slots) ≤ 1
+    pool-once : (i : ℕ) → copies i (nodesOf left right slots) ≤ 1
     unfolding weighNodes sumOf
     pool-once i = omega (arith, p .apart i, in-pool-once (length left) i)
 
@@ -104,14 +104,14 @@ module _ (left right : List ℕ) where
         go (y ∷ s) e d = ap (λ (x : Slot). x ∷ s) d
 
     parts-weigh : (f : ℕ → ℕ) → weigh f (nodesOf left right slots) ≡ weighSlot f (pennantAt left right 0 (getD slots 0 0)) + weigh f (drop 1 (nodesOf left right slots))
-    unfolding weigh
+    unfolding weigh sumOf
     parts-weigh f = ap (weigh f) parts
 
-    first-parts : splitFirst (nodesOf left right slots) ≡ insertFilled (pennantAt left right 0 (getD slots 0 0)) (map pennantKept (drop 1 (nodesOf left right slots)) ++ gap ∷ [])
+    first-parts : splitFirst (nodesOf left right slots) ≡ insertFilled (pennantAt left right 0 (getD slots 0 0)) (map pennantFirst (drop 1 (nodesOf left right slots)) ++ gap ∷ [])
     unfolding splitFirst
     first-parts = ap splitFirst parts
 
-    second-parts : splitSecond (nodesOf left right slots) ≡ map pennantHalf (drop 1 (nodesOf left right slots)) ++ gap ∷ []
+    second-parts : splitSecond (nodesOf left right slots) ≡ map pennantSecond (drop 1 (nodesOf left right slots)) ++ gap ∷ []
     unfolding splitSecond
     second-parts = ap splitSecond parts
 
@@ -122,8 +122,8 @@ module _ (left right : List ℕ) where
             arith,
             ap (weigh f) (d .nodes-first),
             ap (weigh f) (d .nodes-second),
-            weigh-end f (map pennantKept (drop 1 (nodesOf left right slots))),
-            weigh-end f (map pennantHalf (drop 1 (nodesOf left right slots))),
+            weigh-end f (map pennantFirst (drop 1 (nodesOf left right slots))),
+            weigh-end f (map pennantSecond (drop 1 (nodesOf left right slots))),
             weigh-halves f (drop 1 (nodesOf left right slots)),
           )
 
@@ -132,7 +132,7 @@ module _ (left right : List ℕ) where
       unfolding insertFilled
       split-even e =
           splits slots left′ right first second p
-          (d .nodes-first ∙ sym (first-parts ∙ ap (λ (x : Slot). insertFilled x (map pennantKept (drop 1 (nodesOf left right slots)) ++ gap ∷ [])) (none-gap left right 0 (getD slots 0 0) e)))
+          (d .nodes-first ∙ sym (first-parts ∙ ap (λ (x : Slot). insertFilled x (map pennantFirst (drop 1 (nodesOf left right slots)) ++ gap ∷ [])) (none-gap left right 0 (getD slots 0 0) e)))
           (d .nodes-second ∙ sym second-parts)
           (λ i c. (d .kept i (omega (arith, c, parts-weigh (only i))), refl))
           ll
@@ -163,7 +163,7 @@ module _ (left right : List ℕ) where
         unfolding insertFilled bagInsert
         split-odd left″ right″ whole q ll′ rl =
             splits slots left″ right″ whole second p
-            (q .nodes ∙ ap (bagInsert (getD slots 0 0)) (d .nodes-first) ∙ sym (first-parts ∙ ap (λ (x : Slot). insertFilled x (map pennantKept (drop 1 (nodesOf left right slots)) ++ gap ∷ [])) odd-slot))
+            (q .nodes ∙ ap (bagInsert (getD slots 0 0)) (d .nodes-first) ∙ sym (first-parts ∙ ap (λ (x : Slot). insertFilled x (map pennantFirst (drop 1 (nodesOf left right slots)) ++ gap ∷ [])) odd-slot))
             (nodes-kept left′ right left″ right″ second (λ i c. off i (omega (arith, c, odd-weigh (only i), halves-weigh (only i), pool-once i))) ∙ d .nodes-second ∙ sym second-parts)
             (λ i c.
             let same = off i (omega (arith, c, odd-weigh (only i), halves-weigh (only i))) in
@@ -171,7 +171,7 @@ module _ (left right : List ℕ) where
             (ll′ ∙ ll)
             rl
           where
-            off : (i : ℕ) → only i (getD slots 0 0) + count i (nodesOf left′ right first) ≡ 0 → Same left′ right left″ right″ i
+            off : (i : ℕ) → only i (getD slots 0 0) + copies i (nodesOf left′ right first) ≡ 0 → Same left′ right left″ right″ i
             off i c = (q .kept-left i c, q .kept-right i c)
 
     -- what is taken: the root of the lowest filled slot
@@ -182,7 +182,7 @@ module _ (left right : List ℕ) where
       taken-weigh : (g : ℕ → ℕ) → g (getD slots r 0) + weigh g (takeRest (nodesOf left right slots)) ≡ weigh g (nodesOf left right slots)
       taken-weigh g = rw taken-root at (weigh-rest g (nodesOf left right slots) (nodes-shaped left right slots) f)
 
-      taken-apart : (i : ℕ) → only i (getD slots r 0) + count i (takeRest (nodesOf left right slots)) + sumOf (only i) (freeNodes left) ≤ inPool (length left) i
+      taken-apart : (i : ℕ) → only i (getD slots r 0) + copies i (takeRest (nodesOf left right slots)) + sumOf (only i) (freeNodes left) ≤ inPool (length left) i
       unfolding weighNodes weighFree sumOf
       taken-apart i = omega (arith, p .apart i, taken-weigh (only i))
 
@@ -210,14 +210,14 @@ module _ (left right : List ℕ) where
         rest =
             nodes-kept left′ right left″ right slots′
             (λ i c.
-            let held : 1 ≤ count i (takeRest (nodesOf left right slots)) = rw before at c in
+            let held : 1 ≤ copies i (takeRest (nodesOf left right slots)) = rw before at c in
             (off i (omega (arith, held, taken-apart i, in-pool-once (length left) i)) (λ (e : i ≡ 0). some i held e), refl))
             ∙ before
           where
             before : nodesOf left′ right slots′ ≡ takeRest (nodesOf left right slots)
             before = d .nodes ∙ sym (low .rest)
 
-            some : (i : ℕ) → 1 ≤ count i (takeRest (nodesOf left right slots)) → i ≡ 0 → ⊥
+            some : (i : ℕ) → 1 ≤ copies i (takeRest (nodesOf left right slots)) → i ≡ 0 → ⊥
             some i h e = omega (arith, in-pool-within (length left) i (omega (arith, h, taken-apart i)) .0)
 
         chain : freeNodes left″ ≡ getD slots r 0 ∷ freeNodes left
@@ -238,7 +238,7 @@ module _ (left right : List ℕ) where
           moved = record {
             nodes = λ g. omega (arith, ap (weigh g) rest, ap (sumOf g) chain, taken-weigh g);
             kept-left = λ x h c. off x (omega (arith, c, taken-weigh (only x))) (λ (q : x ≡ 0). omega arith) ∙ d .kept x (omega arith);
-            kept-right = λ x h c. refl;
+            kept-right = λ x c. refl;
             left-length = length-set (set left′ (getD slots r 0) (getD left′ 0 0)) 0 (getD slots r 0) ∙ length-set left′ (getD slots r 0) (getD left′ 0 0) ∙ ll;
             right-length = refl;
           };
@@ -250,7 +250,7 @@ module _ (left right : List ℕ) where
     unfolding weighFree
     popped = free-pop left some (λ i. omega (arith, p .apart i))
 
-    next-apart : (i : ℕ) → only i (getD left 0 0) + count i (nodesOf left right slots) + sumOf (only i) (freeNodes (set left 0 (getD left (getD left 0 0) 0))) ≤ inPool (length left) i
+    next-apart : (i : ℕ) → only i (getD left 0 0) + copies i (nodesOf left right slots) + sumOf (only i) (freeNodes (set left 0 (getD left (getD left 0 0) 0))) ≤ inPool (length left) i
     unfolding weighNodes weighFree sumOf
     next-apart i = omega (arith, p .apart i, ap (sumOf (only i)) popped)
 
@@ -262,7 +262,7 @@ module _ (left right : List ℕ) where
     left′ = set left 0 (getD left (getD left 0 0) 0)
 
     -- what is used is not 0
-    used : (i : ℕ) → 1 ≤ count i (nodesOf left right slots) → i ≡ 0 → ⊥
+    used : (i : ℕ) → 1 ≤ copies i (nodesOf left right slots) → i ≡ 0 → ⊥
     used i h e = omega (arith, in-pool-within (length left) i (omega (arith, h, next-apart i)) .0)
 
     bag-same : nodesOf left′ right slots ≡ nodesOf left right slots
@@ -288,6 +288,7 @@ module _ (left right : List ℕ) where
       free = popped ∙ ap (λ (l : List ℕ). getD left 0 0 ∷ l) (sym chain);
       nodes = nodes;
       stored = e;
+      kept-number = λ x h c. rw e (getD-set-other number (getD left 0 0) x value 0 (λ (q : x ≡ getD left 0 0). omega (arith, c, ap (sumOf (only x)) popped, only-self x, ap (λ (n : ℕ). only x n) q)));
       held =
           ap (mapBag (λ x. getD number″ x 0)) nodes
           ∙ map-insert (λ x. getD number″ x 0) (getD left 0 0) (nodesOf left right slots)
@@ -295,7 +296,7 @@ module _ (left right : List ℕ) where
       moved = record {
         nodes = λ f. omega (arith, ap (weigh f) nodes, weigh-insert f (getD left 0 0) (nodesOf left right slots), ap (sumOf f) chain, ap (sumOf f) popped);
         kept-left = λ x h c. d .kept-left x (rw bag-same (omega (arith, c, ap (sumOf (only x)) popped))) ∙ getD-set-other left 0 x (getD left (getD left 0 0) 0) 0 (λ (q : x ≡ 0). omega arith);
-        kept-right = λ x h c. d .kept-right x (rw bag-same (omega (arith, c, ap (sumOf (only x)) popped)));
+        kept-right = λ x c. d .kept-right x (rw bag-same (omega (arith, c, ap (sumOf (only x)) popped)));
         left-length = ll;
         right-length = rl;
       };
@@ -313,5 +314,5 @@ module _ (left right : List ℕ) where
         stored : getD number″ (getD left 0 0) 0 ≡ value
         stored = rw e (getD-set-same number (getD left 0 0) value 0 (omega (arith, next-within)))
 
-        others : (i : ℕ) → 1 ≤ count i (nodesOf left right slots) → getD number″ i 0 ≡ getD number i 0
+        others : (i : ℕ) → 1 ≤ copies i (nodesOf left right slots) → getD number″ i 0 ≡ getD number i 0
         others i h = rw e (getD-set-other number (getD left 0 0) i value 0 (λ (q : i ≡ getD left 0 0). omega (arith, h, next-apart i, in-pool-once (length left) i, only-self i, ap (λ (n : ℕ). only i n) q)))

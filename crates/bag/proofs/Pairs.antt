@@ -6,7 +6,7 @@ use mathlib.Core.List.{List, [], _∷_}
 use lib.ListN.{length, getD, set}
 use lib.Seq.{getD-set-same, getD-set-other}
 use Rattle.lists.specs.Lists.{sumOf}
-use Rattle.pennant.specs.Pennant.{Tree, tip, pennantUnion, pennantKept, pennantHalf}
+use Rattle.pennant.specs.Pennant.{Tree, tip, pennantUnion, pennantFirst, pennantSecond}
 use Rattle.pennant.specs.Held.{weighTree, weighSlot, only}
 use Rattle.pennant.proofs.Laws.{only-self}
 use Rattle.bag.specs.Nodes.{treeAt, pennantAt}
@@ -34,6 +34,13 @@ root-below left right k (suc x) h apart =
     in-pool-within (length left) (suc x) (omega (arith, apart (suc x), root-counts left right k (suc x) (λ (e : suc x ≡ 0). omega arith))) .1
 
 module _ (left right : List ℕ) (k : ℕ) where
+  -- a node that is neither x nor y is as it was
+  link-off : (x y i : ℕ) → only i x + only i y ≡ 0 → Same left right (set left x y) (set right y (getD left x 0)) i
+  link-off x y i c = (
+    getD-set-other left x i y 0 (λ (e : i ≡ x). other-only i x (omega arith) (sym e)),
+    getD-set-other right y i (getD left x 0) 0 (λ (e : i ≡ y). other-only i y (omega arith) (sym e)),
+  )
+
   -- link x y: the pennant with the root x is the union
   pub link-pennant : (x y : ℕ) → (x ≡ 0 → ⊥) → (y ≡ 0 → ⊥) → Pennants left right k (x ∷ y ∷ [])
       → pennantAt (set left x y) (set right y (getD left x 0)) (suc k) x ≡ pennantUnion (pennantAt left right k x) (pennantAt left right k y)
@@ -45,8 +52,8 @@ module _ (left right : List ℕ) (k : ℕ) where
         getD-set-same left (suc x) (suc y) 0 (in-x .1),
         getD-set-other left (suc x) (suc y) (suc y) 0 (λ (e : suc y ≡ suc x). other e),
         getD-set-same right (suc y) (getD left (suc x) 0) 0 (omega (arith, in-y .1, p .wide)),
-        tree-kept left right left′ right′ k (getD left (suc x) 0) (λ i c. same i (omega (arith, c, p .apart i, in-pool-once (length left) i))),
-        tree-kept left right left′ right′ k (getD left (suc y) 0) (λ i c. same i (omega (arith, c, p .apart i, in-pool-once (length left) i))),
+        tree-kept left right left′ right′ k (getD left (suc x) 0) (λ i c. link-off (suc x) (suc y) i (omega (arith, c, p .apart i, in-pool-once (length left) i))),
+        tree-kept left right left′ right′ k (getD left (suc y) 0) (λ i c. link-off (suc x) (suc y) i (omega (arith, c, p .apart i, in-pool-once (length left) i))),
       )
     where
       left′ : List ℕ
@@ -64,22 +71,12 @@ module _ (left right : List ℕ) (k : ℕ) where
       other : suc y ≡ suc x → ⊥
       other e = omega (arith, p .apart (suc x), in-pool-once (length left) (suc x), only-self (suc x), ap (λ (n : ℕ). only (suc x) n) e)
 
-      -- a node of the trees below the roots is as it was
-      same : (i : ℕ) → only i (suc x) + only i (suc y) ≡ 0 → Same left right left′ right′ i
-      same i c = (
-        getD-set-other left (suc x) i (suc y) 0 (λ (e : i ≡ suc x). other-only i (suc x) (omega arith) (sym e)),
-        getD-set-other right (suc y) i (getD left (suc x) 0) 0 (λ (e : i ≡ suc y). other-only i (suc y) (omega arith) (sym e)),
-      )
-
   -- link changes nothing at other nodes
   pub link-kept : (x y : ℕ) (i : ℕ) → (x ≡ 0 → ⊥) → (y ≡ 0 → ⊥) → usesAt i left right k (x ∷ y ∷ []) ≡ 0 → Same left right (set left x y) (set right y (getD left x 0)) i
   unfolding pennantAt sumOf weighSlot
   link-kept zero y i h g c = absurd (h refl)
   link-kept (suc x) zero i h g c = absurd (g refl)
-  link-kept (suc x) (suc y) i h g c = (
-    getD-set-other left (suc x) i (suc y) 0 (λ (e : i ≡ suc x). other-only i (suc x) (omega arith) (sym e)),
-    getD-set-other right (suc y) i (getD left (suc x) 0) 0 (λ (e : i ≡ suc y). other-only i (suc y) (omega arith) (sym e)),
-  )
+  link-kept (suc x) (suc y) i h g c = link-off (suc x) (suc y) i (omega arith)
 
   -- a pennant of more than one node: the root of the half is a node, and another
   pub half-within : (x : ℕ) → (x ≡ 0 → ⊥) → Pennants left right (suc k) (x ∷ [])
@@ -105,12 +102,12 @@ module _ (left right : List ℕ) (k : ℕ) where
   -- halve x: the root keeps one half, its left child becomes the root of the other
   pub halve-pennant : (x : ℕ) → (x ≡ 0 → ⊥) → Pennants left right (suc k) (x ∷ [])
       → Halved left right k x (set left x (getD right (getD left x 0) 0)) (getD left x 0)
-  unfolding pennantAt pennantKept pennantHalf treeAt sumOf weighSlot weighTree
+  unfolding pennantAt pennantFirst pennantSecond treeAt sumOf weighSlot weighTree
   halve-pennant zero h p = absurd (h refl)
   halve-pennant (suc x) h p = record {
-    keeps =
+    first =
         rw (getD-set-same left (suc x) (getD right half 0) 0 (within .0)) (ap (λ (t : Tree). tip (suc x) t) (kept-tree (getD right half 0) (λ i c. omega (arith, c, p .apart i, in-pool-once (length left) i))));
-    gives =
+    second =
         pennant-some left′ right k half (λ (q : half ≡ 0). omega (arith, within .1))
         ∙ ap (λ (t : Tree). tip half t)
         (ap (λ (n : ℕ). treeAt left′ right k n) (same half (only-other half (suc x) (λ (q : suc x ≡ half). within .3 (sym q))))
@@ -137,8 +134,8 @@ module _ (left right : List ℕ) (k : ℕ) where
 
 -- where there is no pennant, nothing is split
 pub halve-zero : (left right : List ℕ) (k x : ℕ) → x ≡ 0 → Halved left right k x left 0
-unfolding pennantAt pennantKept pennantHalf
-halve-zero left right k zero e = record { keeps = refl; gives = refl; kept = λ i c. refl }
+unfolding pennantAt pennantFirst pennantSecond
+halve-zero left right k zero e = record { first = refl; second = refl; kept = λ i c. refl }
 halve-zero left right k (suc x) e = absurd (omega arith)
 
 -- where there is one, the list and the half as the code leaves them

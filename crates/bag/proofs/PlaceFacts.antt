@@ -9,7 +9,7 @@ use lib.ListN.{length, getD, take, drop, set, length-set}
 use Rattle.lists.specs.Lists.{sumOf}
 use Rattle.pennant.specs.Pennant.{Slot, gap, pennantUnion}
 use Rattle.pennant.specs.Bag.{Bag, isGap, insertPennant, bagInsert}
-use Rattle.pennant.specs.Held.{weighSlot, weigh, only, count}
+use Rattle.pennant.specs.Held.{weighSlot, weigh, only, copies}
 use Rattle.pennant.proofs.Laws.{weigh-append, weigh-pennant-union, weigh-insert-pennant, weigh-insert}
 use Rattle.bag.specs.Nodes.{treeAt, pennantAt, nodesOf}
 use Rattle.bag.specs.Promises.{inPool}
@@ -18,7 +18,7 @@ use Rattle.bag.proofs.Only.{in-pool-once, in-pool-within}
 use Rattle.bag.proofs.Kept.{Same, nodes-kept, nodes-at, nodes-set, length-nodes, pennant-shaped}
 use Rattle.bag.proofs.Few.{rank-below}
 use Rattle.bag.proofs.Pairs.{pennant-some, root-counts, link-pennant, link-kept}
-use Rattle.bag.proofs.Backbone.{insert-pass, insert-here, weigh-parts, weigh-set}
+use Rattle.bag.proofs.Backbone.{insert-pass, insert-here, weigh-parts, slot-weighs}
 
 -- a filled slot is no gap
 pub some-filled : (left right : List ℕ) (k x : ℕ) → (x ≡ 0 → ⊥) → isGap (pennantAt left right k x) ≡ false
@@ -33,7 +33,7 @@ module _ (left₀ right₀ slots₀ : List ℕ) (x : ℕ) where
   -- before slot k the insertion is done, from slot k on it is that of the pennant at root
   pub record Placing (left right slots : List ℕ) (root k : ℕ) : Type 0 where
     pub tree : take k (nodesOf left right slots) ++ insertPennant (pennantAt left right k root) (drop k (nodesOf left right slots)) ≡ bagInsert x (nodesOf left₀ right₀ slots₀)
-    pub kept : (i : ℕ) → only i x + count i (nodesOf left₀ right₀ slots₀) ≡ 0 → Same left₀ right₀ left right i
+    pub kept : (i : ℕ) → only i x + copies i (nodesOf left₀ right₀ slots₀) ≡ 0 → Same left₀ right₀ left right i
     pub some : root ≡ 0 → ⊥
     pub below : k < 16
     pub long : length slots ≡ 16
@@ -71,17 +71,14 @@ module _ (left₀ right₀ slots₀ : List ℕ) (x : ℕ) where
         )
 
     -- each is used at most once
-    placing-apart : (i : ℕ) → weighSlot (only i) (pennantAt left right k root) + count i (nodesOf left right slots) ≤ inPool (length left) i
+    placing-apart : (i : ℕ) → weighSlot (only i) (pennantAt left right k root) + copies i (nodesOf left right slots) ≤ inPool (length left) i
     placing-apart i = rw (w .left-length) (omega (arith, placing-weighs (only i), p .apart i))
 
     filled-within : k < length (nodesOf left right slots)
     filled-within = rw (length-nodes left right slots) (omega (arith, w .below, w .long))
 
-    slot-counts : (i : ℕ) → weigh (only i) (nodesOf left right (set slots k 0)) + weighSlot (only i) (pennantAt left right k (getD slots k 0)) ≡ count i (nodesOf left right slots)
-    unfolding pennantAt weighSlot
-    slot-counts i =
-        rw (nodes-set left right slots k 0, ← (nodes-at left right slots k))
-        (weigh-set (only i) k (nodesOf left right slots) gap filled-within ∙ omega arith)
+    slot-counts : (i : ℕ) → weigh (only i) (nodesOf left right (set slots k 0)) + weighSlot (only i) (pennantAt left right k (getD slots k 0)) ≡ copies i (nodesOf left right slots)
+    slot-counts i = slot-weighs left right slots k (omega (arith, w .below, w .long)) (only i)
 
     -- the pennant in a filled slot and the one on its way are apart
     pub placing-pair : Pennants left right k (getD slots k 0 ∷ root ∷ [])

@@ -7,7 +7,7 @@ use mathlib.Core.List.{List, [], _∷_, _++_, map, append-assoc}
 use lib.ListN.{length, getD, take, drop, set, length-set, drop-of-length-le}
 use lib.Seq.{take-suc-set, drop-cons, take-all, take-suc, getD-set-other}
 use Rattle.lists.specs.Lists.{sumOf}
-use Rattle.pennant.specs.Pennant.{Slot, gap, pennantKept, pennantHalf}
+use Rattle.pennant.specs.Pennant.{Slot, gap, pennantFirst, pennantSecond}
 use Rattle.pennant.specs.Bag.{Bag}
 use Rattle.pennant.specs.Held.{weighSlot, weigh, only}
 use Rattle.pennant.proofs.Laws.{weigh-append, weigh-halves, weigh-end}
@@ -17,7 +17,7 @@ use Rattle.bag.specs.Steps.{Pennants, Halved, Shifted}
 use Rattle.bag.proofs.Only.{in-pool-once}
 use Rattle.bag.proofs.Kept.{drop-kept, take-kept, nodes-at, nodes-set, length-nodes}
 use Rattle.bag.proofs.Pairs.{root-below, half-within}
-use Rattle.bag.proofs.Backbone.{weigh-parts, weigh-next}
+use Rattle.bag.proofs.Backbone.{weigh-parts, next-weighs}
 use Rattle.bag.proofs.PlaceFacts.{none-gap}
 
 -- one of the two bags that are made: before slot k as g makes it of the pennants one slot up, its last slot still empty
@@ -57,22 +57,13 @@ filling-done g left₀ right slots₀ left part w l =
     ∙ rw (drop-of-length-le (nodesOf left right slots₀) {i = 16} (rw (length-nodes left right slots₀) (omega arith))) at (w .tree)
 
 module _ (left₀ right slots₀ : List ℕ) where
+  -- between two steps: both bags are made up to slot k
   pub record Shifting (left first second : List ℕ) (k : ℕ) : Type 0 where
-    pub firsts : Filling pennantKept left₀ right slots₀ left first k
-    pub seconds : Filling pennantHalf left₀ right slots₀ left second k
+    pub firsts : Filling pennantFirst left₀ right slots₀ left first k
+    pub seconds : Filling pennantSecond left₀ right slots₀ left second k
     pub kept : (i : ℕ) → weigh (only i) (drop 1 (nodesOf left₀ right slots₀)) ≡ 0 → getD left i 0 ≡ getD left₀ i 0
     pub below : k ≤ 15
     pub left-length : length left ≡ length left₀
-
-  -- at the start
-  pub shifting-start : (first second : List ℕ) → getD first 15 0 ≡ 0 → getD second 15 0 ≡ 0 → length first ≡ 16 → length second ≡ 16 → Shifting left₀ first second 0
-  shifting-start first second a b la lb = record {
-    firsts = record { tree = refl; last = a; long = la };
-    seconds = record { tree = refl; last = b; long = lb };
-    kept = λ i c. refl;
-    below = omega arith;
-    left-length = refl;
-  }
 
   module _ (p : Pooled left₀ right (slots₀ ∷ [])) (l : length slots₀ ≡ 16) (left first second : List ℕ) (k : ℕ) (w : Shifting left first second k) where
     -- no node is lost or gained
@@ -83,12 +74,12 @@ module _ (left₀ right slots₀ : List ℕ) where
           arith,
           ap (λ (s : Bag). weigh f s) (w .firsts .tree),
           ap (λ (s : Bag). weigh f s) (w .seconds .tree),
-          weigh-append f (take k (nodesOf left right first)) (map pennantKept (drop (suc k) (nodesOf left right slots₀)) ++ gap ∷ []),
-          weigh-append f (take k (nodesOf left right second)) (map pennantHalf (drop (suc k) (nodesOf left right slots₀)) ++ gap ∷ []),
-          weigh-end f (map pennantKept (drop (suc k) (nodesOf left right slots₀))),
-          weigh-end f (map pennantHalf (drop (suc k) (nodesOf left right slots₀))),
-          weigh-end f (map pennantKept (drop 1 (nodesOf left₀ right slots₀))),
-          weigh-end f (map pennantHalf (drop 1 (nodesOf left₀ right slots₀))),
+          weigh-append f (take k (nodesOf left right first)) (map pennantFirst (drop (suc k) (nodesOf left right slots₀)) ++ gap ∷ []),
+          weigh-append f (take k (nodesOf left right second)) (map pennantSecond (drop (suc k) (nodesOf left right slots₀)) ++ gap ∷ []),
+          weigh-end f (map pennantFirst (drop (suc k) (nodesOf left right slots₀))),
+          weigh-end f (map pennantSecond (drop (suc k) (nodesOf left right slots₀))),
+          weigh-end f (map pennantFirst (drop 1 (nodesOf left₀ right slots₀))),
+          weigh-end f (map pennantSecond (drop 1 (nodesOf left₀ right slots₀))),
           weigh-halves f (drop (suc k) (nodesOf left right slots₀)),
           weigh-halves f (drop 1 (nodesOf left₀ right slots₀)),
         )
@@ -101,7 +92,7 @@ module _ (left₀ right slots₀ : List ℕ) where
 
     module _ (h : k < 15) where
       next-counts : (f : ℕ → ℕ) → weigh f (drop (suc k) (nodesOf left right slots₀)) ≡ weighSlot f (pennantAt left right (suc k) (getD slots₀ (suc k) 0)) + weigh f (drop (suc (suc k)) (nodesOf left right slots₀))
-      next-counts f = rw (nodes-at left right slots₀ (suc k)) at (weigh-next f (suc k) (nodesOf left right slots₀) (rw (length-nodes left right slots₀) (omega arith)))
+      next-counts f = next-weighs left right slots₀ (suc k) (omega arith) f
 
       -- the pennant that is split is well-formed
       pub shifting-one : Pennants left right (suc k) (getD slots₀ (suc k) 0 ∷ [])
@@ -119,8 +110,8 @@ module _ (left₀ right slots₀ : List ℕ) where
       shifting-next : (left′ : List ℕ) (half : ℕ) → Halved left right k (getD slots₀ (suc k) 0) left′ half → length left′ ≡ length left → Shifting left′ (set first k (getD slots₀ (suc k) 0)) (set second k half) (k + 1)
       unfolding sumOf
       shifting-next left′ half d ll = record {
-        firsts = filling-step pennantKept left₀ right slots₀ left first left′ k (getD slots₀ (suc k) 0) (w .firsts) h l (d .keeps) (takes first (λ i c. omega (arith, c, shifting-apart i, next-counts (only i), in-pool-once (length left) i))) rest;
-        seconds = filling-step pennantHalf left₀ right slots₀ left second left′ k half (w .seconds) h l (d .gives) (takes second (λ i c. omega (arith, c, shifting-apart i, next-counts (only i), in-pool-once (length left) i))) rest;
+        firsts = filling-step pennantFirst left₀ right slots₀ left first left′ k (getD slots₀ (suc k) 0) (w .firsts) h l (d .first) (takes first (λ i c. omega (arith, c, shifting-apart i, next-counts (only i), in-pool-once (length left) i))) rest;
+        seconds = filling-step pennantSecond left₀ right slots₀ left second left′ k half (w .seconds) h l (d .second) (takes second (λ i c. omega (arith, c, shifting-apart i, next-counts (only i), in-pool-once (length left) i))) rest;
         kept = λ i c. off i (omega (arith, shifting-weighs (only i), next-counts (only i), c)) ∙ w .kept i c;
         below = omega arith;
         left-length = ll ∙ w .left-length;
@@ -143,7 +134,7 @@ module _ (left₀ right slots₀ : List ℕ) where
     -- at the end
     pub shifting-done : k ≡ 15 → Shifted left₀ right slots₀ left first second
     shifting-done e = record {
-      nodes-first = filling-done pennantKept left₀ right slots₀ left first (rw e at (w .firsts)) l;
-      nodes-second = filling-done pennantHalf left₀ right slots₀ left second (rw e at (w .seconds)) l;
+      nodes-first = filling-done pennantFirst left₀ right slots₀ left first (rw e at (w .firsts)) l;
+      nodes-second = filling-done pennantSecond left₀ right slots₀ left second (rw e at (w .seconds)) l;
       kept = w .kept;
     }

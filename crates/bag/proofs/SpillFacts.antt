@@ -6,17 +6,18 @@ use mathlib.Core.List.{List, [], _∷_}
 use lib.ListN.{length, getD, drop, set, length-set}
 use lib.Seq.{set-set, set-getD}
 use Rattle.lists.specs.Lists.{sumOf}
+use Rattle.lists.proofs.Replaced.{drop-set}
 use Rattle.pennant.specs.Pennant.{gap}
 use Rattle.pennant.specs.Bag.{Bag, spread}
-use Rattle.pennant.specs.Held.{weighSlot, weigh, only, count}
+use Rattle.pennant.specs.Held.{weighSlot, weigh, only, copies}
 use Rattle.pennant.proofs.Laws.{weigh-spread}
 use Rattle.bag.specs.Nodes.{treeAt, pennantAt, nodesOf}
 use Rattle.bag.specs.Promises.{inPool, weighNodes, Pooled}
 use Rattle.bag.specs.Steps.{Pennants, Halved, Spilled}
 use Rattle.bag.proofs.Only.{in-pool-once}
-use Rattle.bag.proofs.Kept.{drop-kept, nodes-at, nodes-set, length-nodes, pennant-shaped}
+use Rattle.bag.proofs.Kept.{drop-kept, nodes-set, length-nodes, pennant-shaped}
 use Rattle.bag.proofs.Pairs.{pennant-some, root-below, half-within}
-use Rattle.bag.proofs.Backbone.{drop-set, weigh-parts, weigh-next}
+use Rattle.bag.proofs.Backbone.{weigh-parts, next-weighs}
 
 -- the halves and the root weigh what the pennant does
 spread-weighs : (f : ℕ → ℕ) (left right : List ℕ) (k root : ℕ) (s : Bag) → (root ≡ 0 → ⊥)
@@ -29,7 +30,7 @@ module _ (left₀ right slots₀ : List ℕ) (top : ℕ) where
   -- what is to come: the pennant at the root spread over the slots below k
   pub record Spilling (left slots : List ℕ) (k : ℕ) : Type 0 where
     pub tree : spread k (pennantAt left right k (getD slots₀ top 0)) (drop k (nodesOf left right slots)) ≡ spread top (pennantAt left₀ right top (getD slots₀ top 0)) (gap ∷ drop (suc top) (nodesOf left₀ right slots₀))
-    pub kept : (i : ℕ) → count i (nodesOf left₀ right slots₀) ≡ 0 → getD left i 0 ≡ getD left₀ i 0
+    pub kept : (i : ℕ) → copies i (nodesOf left₀ right slots₀) ≡ 0 → getD left i 0 ≡ getD left₀ i 0
     pub below : k ≤ top
     pub long : length slots ≡ 16
     pub left-length : length left ≡ length left₀
@@ -42,7 +43,7 @@ module _ (left₀ right slots₀ : List ℕ) (top : ℕ) where
     pub spilling-start : Spilling left₀ (set slots₀ top 0) top
     unfolding pennantAt
     spilling-start = record {
-      tree = ap (λ (s : Bag). spread top (pennantAt left₀ right top (getD slots₀ top 0)) s) (ap (λ (s : Bag). drop top s) (nodes-set left₀ right slots₀ top 0) ∙ drop-set top (nodesOf left₀ right slots₀) gap top-within);
+      tree = ap (λ (s : Bag). spread top (pennantAt left₀ right top (getD slots₀ top 0)) s) (ap (λ (s : Bag). drop top s) (nodes-set left₀ right slots₀ top 0) ∙ drop-set (nodesOf left₀ right slots₀) top gap top-within);
       kept = λ i c. refl;
       below = omega arith;
       long = length-set slots₀ top 0 ∙ l;
@@ -52,7 +53,7 @@ module _ (left₀ right slots₀ : List ℕ) (top : ℕ) where
     module _ (left slots : List ℕ) (k : ℕ) (w : Spilling left slots k) where
       -- no node is gained
       spilling-weighs : (f : ℕ → ℕ) → weighSlot f (pennantAt left right k (getD slots₀ top 0)) + weigh f (drop k (nodesOf left right slots)) ≤ weigh f (nodesOf left₀ right slots₀)
-      unfolding weigh weighSlot
+      unfolding weigh weighSlot sumOf
       spilling-weighs f =
           omega (
             arith,
@@ -60,7 +61,7 @@ module _ (left₀ right slots₀ : List ℕ) (top : ℕ) where
             spread-weighs f left right k (getD slots₀ top 0) (drop k (nodesOf left right slots)) some,
             spread-weighs f left₀ right top (getD slots₀ top 0) (gap ∷ drop (suc top) (nodesOf left₀ right slots₀)) some,
             weigh-parts f top (nodesOf left₀ right slots₀),
-            rw (nodes-at left₀ right slots₀ top) at (weigh-next f top (nodesOf left₀ right slots₀) top-within),
+            next-weighs left₀ right slots₀ top (omega arith) f,
           )
 
       -- each is used at most once
@@ -85,8 +86,8 @@ module _ (left₀ right slots₀ : List ℕ) (top : ℕ) where
       unfolding spread sumOf
       spilling-step m e left′ half d ll = record {
         tree =
-            ap (λ (s : Bag). spread m (pennantAt left′ right m (getD slots₀ top 0)) s) (ap (λ (s : Bag). drop m s) (nodes-set left′ right slots m half) ∙ drop-set m (nodesOf left′ right slots) (pennantAt left′ right m half) within)
-            ∙ rw (d .keeps, d .gives, rest) (rw (← e) at (w .tree));
+            ap (λ (s : Bag). spread m (pennantAt left′ right m (getD slots₀ top 0)) s) (ap (λ (s : Bag). drop m s) (nodes-set left′ right slots m half) ∙ drop-set (nodesOf left′ right slots) m (pennantAt left′ right m half) within)
+            ∙ rw (d .first, d .second, rest) (rw (← e) at (w .tree));
         kept = λ i c. off i (omega (arith, spilling-weighs (only i), c)) ∙ w .kept i c;
         below = omega (arith, w .below);
         long = length-set slots m half ∙ w .long;

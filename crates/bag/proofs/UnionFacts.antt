@@ -18,7 +18,7 @@ use Rattle.bag.proofs.Only.{in-pool-once}
 use Rattle.bag.proofs.Kept.{Same, nodes-kept, drop-kept, nodes-at, nodes-set, length-nodes, pennant-shaped}
 use Rattle.bag.proofs.Few.{rank-below}
 use Rattle.bag.proofs.Pairs.{root-below}
-use Rattle.bag.proofs.Backbone.{add-pass, add-end, weigh-parts, weigh-set, weigh-next}
+use Rattle.bag.proofs.Backbone.{add-pass, add-end, weigh-parts, slot-weighs, next-weighs}
 use Rattle.bag.proofs.PlaceFacts.{some-filled, none-gap}
 
 module _ (left₀ right₀ a b : List ℕ) where
@@ -76,13 +76,10 @@ module _ (left₀ right₀ a b : List ℕ) where
       others-within = rw (length-nodes left right b) (omega arith)
 
       slot-counts : (f : ℕ → ℕ) → weigh f (nodesOf left right (set slots k 0)) + weighSlot f (pennantAt left right k (getD slots k 0)) ≡ weigh f (nodesOf left right slots)
-      unfolding pennantAt weighSlot
-      slot-counts f =
-          rw (nodes-set left right slots k 0, ← (nodes-at left right slots k))
-          (weigh-set f k (nodesOf left right slots) gap slots-within ∙ omega arith)
+      slot-counts f = slot-weighs left right slots k (omega (arith, w .long)) f
 
       other-counts : (f : ℕ → ℕ) → weigh f (drop k (nodesOf left right b)) ≡ weighSlot f (pennantAt left right k (getD b k 0)) + weigh f (drop (suc k) (nodesOf left right b))
-      other-counts f = rw (nodes-at left right b k) at (weigh-next f k (nodesOf left right b) others-within)
+      other-counts f = next-weighs left right b k (omega arith) f
 
       -- the three pennants of slot k are apart
       pub uniting-three : Pennants left right k (getD slots k 0 ∷ getD b k 0 ∷ carry ∷ [])

@@ -1,5 +1,5 @@
 -- Bags on node lists: what the contracts of the crate `bag` cite.
 pub mod Nodes
 pub mod Promises
-pub mod Adder
+pub mod Table
 pub mod Steps

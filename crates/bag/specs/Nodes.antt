@@ -1,8 +1,9 @@
--- Pennants and bags of nodes in two lists, left and right, and the free chain through left. Nodes are numbered from 1; 0 is none. Slot k says
--- how deep a pennant goes, so that k levels of the lists are read and none is needed to end them.
+-- Pennants and bags of nodes in two lists, left and right, and the free chain through left. Nodes are numbered from 1; 0 is none. A slot's
+-- place k says how deep its pennant goes: k levels of the lists are read, and no NULL is needed to end them.
 use Prim.Native.Nat.{ℕ, zero, suc}
 use mathlib.Core.List.{List, [], _∷_}
 use lib.ListN.{length, getD, replicate}
+use Rattle.lists.specs.Lists.{chainFrom}
 use Rattle.pennant.specs.Pennant.{Tree, null, node, Slot, gap, tip}
 use Rattle.pennant.specs.Bag.{Bag, slotCount}
 use Rattle.pennant.specs.Held.{mapBag}
@@ -34,11 +35,9 @@ heldBy left right number slots = mapBag (λ x. getD number x 0) (nodesOf left ri
 abbrev pub emptySlots : List ℕ
 emptySlots = replicate slotCount 0
 
--- "Free nodes are chained by a next index, zero ends the chain": at most so many nodes, from x on
+-- "Free nodes are chained by a next index, zero ends the chain": the chain from x on through left, at most so many
 unfoldable pub freeFrom : List ℕ → ℕ → ℕ → List ℕ
-freeFrom left zero x = []
-freeFrom left (suc steps) zero = []
-freeFrom left (suc steps) (suc x) = suc x ∷ freeFrom left steps (getD left (suc x) 0)
+freeFrom left steps x = chainFrom (λ n. getD left n 0) steps x
 
 -- the free nodes: the chain starts at place 0, which is no node's
 unfoldable pub freeNodes : List ℕ → List ℕ

@@ -4,9 +4,9 @@ use mathlib.Core.Path.{_≡_}
 use mathlib.Core.List.{List, [], _∷_, _++_, map}
 use lib.ListN.{length, getD, set, drop}
 use Rattle.lists.specs.Lists.{sumOf}
-use Rattle.pennant.specs.Pennant.{gap, pennantKept, pennantHalf}
+use Rattle.pennant.specs.Pennant.{gap, pennantFirst, pennantSecond}
 use Rattle.pennant.specs.Bag.{bagInsert, spread, adderSum, adderCarry}
-use Rattle.pennant.specs.Held.{weighSlot, weigh, only, count}
+use Rattle.pennant.specs.Held.{weighSlot, weigh, only, copies}
 use Rattle.bag.specs.Nodes.{pennantAt, nodesOf}
 use Rattle.bag.specs.Promises.{inPool}
 
@@ -32,42 +32,61 @@ usesAt i left right k roots = sumOf (λ x. weighSlot (only i) (pennantAt left ri
 
 -- pennants of 2^k nodes that have no node twice, none past the list, and not 0
 pub record Pennants (left right : List ℕ) (k : ℕ) (roots : List ℕ) : Type 0 where
+  -- right has a place for each node, too
   pub wide : length left ≤ length right
+  -- each node in at most one place
   pub apart : (i : ℕ) → usesAt i left right k roots ≤ inPool (length left) i
 
 -- PENNANT-SPLIT on the lists
 pub record Halved (left right : List ℕ) (k x : ℕ) (left′ : List ℕ) (half : ℕ) : Type 0 where
-  pub keeps : pennantAt left′ right k x ≡ pennantKept (pennantAt left right (suc k) x)
-  pub gives : pennantAt left′ right k half ≡ pennantHalf (pennantAt left right (suc k) x)
+  -- what the root x keeps
+  pub first : pennantAt left′ right k x ≡ pennantFirst (pennantAt left right (suc k) x)
+  -- what is split off
+  pub second : pennantAt left′ right k half ≡ pennantSecond (pennantAt left right (suc k) x)
+  -- a node that is not the pennant's is unchanged
   pub kept : (i : ℕ) → usesAt i left right (suc k) (x ∷ []) ≡ 0 → getD left′ i 0 ≡ getD left i 0
 
 -- the full adder on the lists
 pub record Added (left right : List ℕ) (k x y z : ℕ) (left′ right′ : List ℕ) (slot carry : ℕ) : Type 0 where
+  -- s of FA
   pub sum : pennantAt left′ right′ k slot ≡ adderSum (pennantAt left right k x) (pennantAt left right k y) (pennantAt left right k z)
+  -- c of FA
   pub carried : pennantAt left′ right′ (suc k) carry ≡ adderCarry (pennantAt left right k x) (pennantAt left right k y) (pennantAt left right k z)
+  -- a node that is none of the three pennants' is unchanged
   pub kept-left : (i : ℕ) → usesAt i left right k (x ∷ y ∷ z ∷ []) ≡ 0 → getD left′ i 0 ≡ getD left i 0
   pub kept-right : (i : ℕ) → usesAt i left right k (x ∷ y ∷ z ∷ []) ≡ 0 → getD right′ i 0 ≡ getD right i 0
 
 -- a bag and a node apart from it
 pub record Loose (left right slots : List ℕ) (x : ℕ) : Type 0 where
+  -- nodes are 16-bit numbers
   pub few : length left ≤ 65536
+  -- right has a place for each node, too
   pub wide : length left ≤ length right
+  -- there is a node
   pub some : x ≡ 0 → ⊥
-  pub apart : (i : ℕ) → only i x + count i (nodesOf left right slots) ≤ inPool (length left) i
+  -- which is not the bag's; each node in at most one place
+  pub apart : (i : ℕ) → only i x + copies i (nodesOf left right slots) ≤ inPool (length left) i
 
 -- BAG-INSERT on the lists
 pub record Placed (left right slots : List ℕ) (x : ℕ) (left′ right′ slots′ : List ℕ) : Type 0 where
+  -- the bag gains the node
   pub nodes : nodesOf left′ right′ slots′ ≡ bagInsert x (nodesOf left right slots)
-  pub kept-left : (i : ℕ) → only i x + count i (nodesOf left right slots) ≡ 0 → getD left′ i 0 ≡ getD left i 0
-  pub kept-right : (i : ℕ) → only i x + count i (nodesOf left right slots) ≡ 0 → getD right′ i 0 ≡ getD right i 0
+  -- a node that is neither it nor the bag's is unchanged
+  pub kept-left : (i : ℕ) → only i x + copies i (nodesOf left right slots) ≡ 0 → getD left′ i 0 ≡ getD left i 0
+  pub kept-right : (i : ℕ) → only i x + copies i (nodesOf left right slots) ≡ 0 → getD right′ i 0 ≡ getD right i 0
 
 -- BAG-SPLIT on the lists, but for the pennant in slot 0
 pub record Shifted (left right slots left′ first second : List ℕ) : Type 0 where
-  pub nodes-first : nodesOf left′ right first ≡ map pennantKept (drop 1 (nodesOf left right slots)) ++ gap ∷ []
-  pub nodes-second : nodesOf left′ right second ≡ map pennantHalf (drop 1 (nodesOf left right slots)) ++ gap ∷ []
+  -- one slot down, what the roots keep
+  pub nodes-first : nodesOf left′ right first ≡ map pennantFirst (drop 1 (nodesOf left right slots)) ++ gap ∷ []
+  -- one slot down, what is split off
+  pub nodes-second : nodesOf left′ right second ≡ map pennantSecond (drop 1 (nodesOf left right slots)) ++ gap ∷ []
+  -- a node of no pennant past slot 0 is unchanged
   pub kept : (i : ℕ) → weigh (only i) (drop 1 (nodesOf left right slots)) ≡ 0 → getD left′ i 0 ≡ getD left i 0
 
 -- the pennant of slot k spread over the slots below it
 pub record Spilled (left right slots : List ℕ) (k : ℕ) (left′ slots′ : List ℕ) : Type 0 where
+  -- the halves fill the slots below, slot k is empty
   pub nodes : nodesOf left′ right slots′ ≡ spread k (pennantAt left right k (getD slots k 0)) (gap ∷ drop (suc k) (nodesOf left right slots))
-  pub kept : (i : ℕ) → count i (nodesOf left right slots) ≡ 0 → getD left′ i 0 ≡ getD left i 0
+  -- a node that is not the bag's is unchanged
+  pub kept : (i : ℕ) → copies i (nodesOf left right slots) ≡ 0 → getD left′ i 0 ≡ getD left i 0

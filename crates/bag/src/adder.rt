@@ -4,13 +4,13 @@ ghost use mathlib.Core.Path.{_≡_};
 ghost use mathlib.Core.List.{[], _∷_};
 ghost use Prim.Native.Nat.{ℕ, _<_, _≤_};
 ghost use lib.ListN.{length};
-ghost use Rattle.bag.specs.Adder.{bit, rowOf, term, entryAt};
+ghost use Rattle.bag.specs.Table.{present, rowOf, term, entryAt};
 ghost use Rattle.bag.specs.Steps.{linkedLeft, linkedRight, Pennants, Added};
 use crate::nodes::link;
 
 // 000's table. A row for each x + 2y + 4z, where a pennant that is there counts 1: which of none (0),
 // x (1), y (2) and z (3) is the sum, and of which two the carry is the union, its root first.
-const ADDER: [[usize; 3]; 8] = [
+const TABLE: [[usize; 3]; 8] = [
     [0, 0, 0],
     [1, 0, 0],
     [2, 0, 0],
@@ -21,6 +21,7 @@ const ADDER: [[usize; 3]; 8] = [
     [1, 2, 3],
 ];
 
+// s and c of FA.
 pub struct Sum {
     pub slot: u16,
     pub carry: u16,
@@ -28,7 +29,7 @@ pub struct Sum {
 
 // 1 for a pennant that is there.
 fn filled(x: u16) -> usize
-    ensures { λ r. ⌜ r ≡ bit x ⌝ }
+    ensures { λ r. ⌜ r ≡ present x ⌝ }
     ensures { λ r. ⌜ r ≤ 1 ⌝ }
 {
     if x == 0 { 0 } else { 1 }
@@ -48,11 +49,11 @@ fn entry(row: usize, column: usize) -> usize
     requires { ⌜ column < 3 ⌝ }
     ensures { λ r. ⌜ r ≡ entryAt row column ⌝ }
 {
-    let entries = ADDER[row];
+    let entries = TABLE[row];
     entries[column]
 }
 
-// The pennant that it stands for.
+// The pennant that this entry stands for.
 fn pick(row: usize, column: usize, x: u16, y: u16, z: u16) -> u16
     requires { ⌜ row < 8 ⌝ }
     requires { ⌜ column < 3 ⌝ }

@@ -33,8 +33,8 @@ pub fn link(x: u16, y: u16, left: &mut [u16], right: &mut [u16])
     put(left, x, y);
 }
 
-// PENNANT-SPLIT of the pennant with the root x, which stays x's; the root of the half that is split
-// off. 0 where x is 0.
+// PENNANT-SPLIT of the pennant with the root x: x keeps one half, the answer is the root of the other.
+// 0 where x is 0.
 pub fn halve(x: u16, left: &mut [u16], right: &[u16]) -> u16
     requires { ⌜ x < length (now left) ⌝ }
     requires { ⌜ ((x ≡ 0 → ⊥) → getD (now left) x 0 < length (now right)) ⌝ }

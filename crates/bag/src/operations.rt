@@ -3,7 +3,7 @@
 ghost use mathlib.Core.Path.{_≡_};
 ghost use mathlib.Core.Bool.{false};
 ghost use mathlib.Core.List.{[], _∷_};
-ghost use Prim.Native.Nat.{ℕ, _<_, _≤_};
+ghost use Prim.Native.Nat.{_<_, _≤_};
 ghost use lib.ListN.{length, getD};
 ghost use Rattle.pennant.specs.Bag.{isEmpty};
 ghost use Rattle.bag.specs.Nodes.{nodesOf};
@@ -29,9 +29,9 @@ fn place(bag: Bag, x: u16, left: &mut [u16], right: &mut [u16]) -> Bag
     let mut root = x;
     let mut k = 0;
     while slots[k] != 0 {
-        let whole = slots[k];
-        link(whole, root, left, right);
-        root = whole;
+        let first = slots[k];
+        link(first, root, left, right);
+        root = first;
         slots[k] = 0;
         k += 1;
     }
@@ -108,7 +108,8 @@ pub fn split(bag: Bag, left: &mut [u16], right: &mut [u16]) -> Halves
     }
 }
 
-// Splits the pennant in slot k for k times, always keeping the root; the halves fill the slots below.
+// Take's splits: the pennant in slot `from` is split `from` times, always keeping the root; the halves
+// fill the slots below, and the slot is left empty.
 fn spill(bag: Bag, from: usize, left: &mut [u16], right: &[u16]) -> Bag
     requires { ⌜ Pooled (now left) (now right) (bag .slots ∷ []) ⌝ }
     requires { ⌜ from < 16 ⌝ }

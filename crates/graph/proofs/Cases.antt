@@ -5,7 +5,7 @@ use mathlib.Core.List.{List, [], _∷_, map, flatten}
 use Prim.Native.Nat.{ℕ}
 use lib.ListN.{replicate}
 use Rattle.numbers.specs.Refusals.{first}
-use Rattle.lists.specs.Lists.{numbersFrom, sumsFrom, elem, repeats, lacks, reaches}
+use Rattle.lists.specs.Lists.{chainFrom, numbersFrom, sumsFrom, elem, repeats, lacks, reaches}
 use Rattle.graph.specs.Graph.{Graph, offsetsOf, targetsOf}
 use Rattle.graph.specs.File.{word, wordsAt, vertexCount, edgeCount, headIndex, target, next, heads, recordTargets, recordNexts, chain, chains, reached, graphOf}
 use Rattle.graph.specs.Read.{outsideSizes, headerRefusals, scanRefusals, chainRefusals, rowsShort, readRefusals, readNumber}
@@ -25,7 +25,7 @@ numberOf words = readNumber (bytesOf words) (replicate 8 0) (replicate 8 0) (rep
 
 -- 0 for A and C, 6 for E, 5 for F, 2 for G
 pub case-numbers : map numberOf files ≡ 0 ∷ 0 ∷ 6 ∷ 5 ∷ 2 ∷ []
-unfolding numberOf bytesOf readNumber readRefusals headerRefusals scanRefusals chainRefusals rowsShort outsideSizes first vertexCount edgeCount word wordsAt heads recordTargets recordNexts reached chains chain headIndex next flatten numbersFrom repeats lacks elem reaches
+unfolding numberOf bytesOf readNumber readRefusals headerRefusals scanRefusals chainRefusals rowsShort outsideSizes first vertexCount edgeCount word wordsAt heads recordTargets recordNexts reached chains chain headIndex next flatten numbersFrom repeats lacks elem reaches chainFrom
 case-numbers = refl
 
 -- the rows of case A
@@ -33,7 +33,7 @@ abbrev pub rowsA : Graph
 rowsA = (1 ∷ 2 ∷ []) ∷ (3 ∷ []) ∷ (3 ∷ []) ∷ [] ∷ []
 
 pub case-rows : graphOf (bytesOf caseA) ≡ rowsA
-unfolding bytesOf graphOf vertexCount edgeCount word chains chain headIndex next target numbersFrom
+unfolding bytesOf graphOf vertexCount edgeCount word chains chain headIndex next target numbersFrom chainFrom
 case-rows = refl
 
 pub case-starts : offsetsOf rowsA ≡ 0 ∷ 2 ∷ 3 ∷ 4 ∷ 4 ∷ []

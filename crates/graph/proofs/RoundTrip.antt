@@ -12,7 +12,7 @@ use borrow.Author.Tests.{ltb-false, leb-false, lt-leb}
 use Rattle.numbers.specs.Numbers.{badRows, shortList}
 use Rattle.numbers.specs.Refusals.{first, _gives_}
 use Rattle.numbers.proofs.First.{first-passed}
-use Rattle.lists.specs.Lists.{numbersFrom, elem, reaches, overlay}
+use Rattle.lists.specs.Lists.{chainFrom, numbersFrom, elem, reaches, overlay}
 use Rattle.lists.proofs.Or.{or-none, none-or}
 use Rattle.lists.proofs.Tests.{reaches-append, reaches-weaken, range-append, repeats-range, elem-lacks}
 use Rattle.graph.specs.Graph.{Graph, offsetsOf, targetsOf, rowsOf}
@@ -80,7 +80,7 @@ row-targets file k [] l = refl
 row-targets file k (t ∷ row) l = ap₂ (λ (x : ℕ) (xs : List ℕ). x ∷ xs) (l .0) (row-targets file (suc k) row (l .2))
 
 row-chain : (file : List ℕ) (k : ℕ) (row : List ℕ) (steps : ℕ) → Linked file k row → length row ≤ steps → chain file steps (headOf k row) ≡ numbersFrom (suc k) (length row)
-unfolding numbersFrom chain headOf
+unfolding numbersFrom chain headOf chainFrom
 row-chain file k [] zero l h = refl
 row-chain file k [] (suc steps) l h = refl
 row-chain file k (t ∷ row) zero l h = absurd (not-suc-le-zero h)

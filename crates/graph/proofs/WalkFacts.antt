@@ -1,11 +1,12 @@
 -- A walk along the chains, vertex by vertex: the records that are still to come, and how they are met one at a time. Both walks of the
 -- reader, the one that marks and the one that writes rows, go by these facts.
-use mathlib.Core.Path.{_≡_, refl, ap}
+use mathlib.Core.Path.{_≡_, ap}
 use mathlib.Core.List.{List, [], _∷_, map}
-use Prim.Native.Nat.{ℕ, zero, suc, _+_, _*_, _-_, _≤_, _<_}
+use Prim.Native.Nat.{ℕ, suc, _+_, _*_, _-_, _≤_, _<_}
 use native.Mathlib.Nat.{sub-zero}
 use native.Mathlib.Omega.{arith}
 use Rattle.lists.specs.Lists.{numbersFrom}
+use Rattle.lists.proofs.Chains.{chain-none, chain-some}
 use Rattle.graph.specs.File.{word, vertexCount, edgeCount, headIndex, target, next, chain, chains}
 use Rattle.graph.specs.Steps.{Sized}
 
@@ -41,14 +42,12 @@ chains-none file u h = rw none
 -- a chain ends at 0
 pub chain-end : (file : List ℕ) (steps : ℕ) → chain file steps 0 ≡ []
 unfolding chain
-chain-end file zero = refl
-chain-end file (suc steps) = refl
+chain-end file steps = chain-none (next file) steps
 
 -- and goes on at any other index
 pub chain-step : (file : List ℕ) (steps r : ℕ) → (r ≡ 0 → ⊥) → chain file (suc steps) r ≡ r ∷ chain file steps (next file r)
 unfolding chain
-chain-step file steps zero h = absurd (h refl)
-chain-step file steps (suc r) h = refl
+chain-step file steps r h = chain-some (next file) steps r h
 
 -- the words of record r, counted from n
 pub target-word : {file : List ℕ} {n m : ℕ} → Sized file n m → (r : ℕ) → word file (n + 2 * r) ≡ target file r

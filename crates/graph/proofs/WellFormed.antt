@@ -4,7 +4,7 @@ use mathlib.Core.Path.{_≡_, refl, sym, ap, _∙_}
 use mathlib.Core.Bool.{false, not}
 use mathlib.Core.List.{List, [], _∷_, _++_, map, flatten}
 use Prim.Native.Nat.{ℕ, zero, suc, _+_, _≤_, _<_}
-use native.Mathlib.Nat.{not-suc-le-zero, le-of-suc-le-suc}
+use native.Mathlib.Nat.{le-of-suc-le-suc}
 use native.Mathlib.Omega.{arith}
 use lib.Dec.{ltb, eqb}
 use lib.ListN.{length, getD, length-map}
@@ -12,9 +12,10 @@ use borrow.Author.Tests.{eqb-true, not-false, le-ltb, eq-eqb}
 use Rattle.numbers.specs.Numbers.{badLength, badSize, badTarget, badIndex, repeated, unreached, shortList}
 use Rattle.numbers.specs.Refusals.{_gives_, first}
 use Rattle.numbers.proofs.First.{Positive, first-passed, first-skip, first-split, first-join}
-use Rattle.lists.specs.Lists.{numbersFrom, repeats, lacks, reaches}
+use Rattle.lists.specs.Lists.{chainFrom, numbersFrom, repeats, lacks, reaches}
 use Rattle.lists.proofs.Or.{or-none}
 use Rattle.lists.proofs.Tests.{reaches-append, range-elem, InRange, in-range-nil, in-range-cons, in-range-append, full-length, map-flatten, map-reaches, reaches-map, row-short, map-at, length-range, getD-range}
+use Rattle.lists.proofs.Chains.{chain-longer}
 use Rattle.graph.specs.Graph.{offsetsOf, targetsOf}
 use Rattle.graph.specs.File.{vertexCount, edgeCount, fileLength, headIndex, target, next, heads, recordTargets, recordNexts, chain, chains, reached, graphOf}
 use Rattle.graph.specs.Read.{outsideSizes, headerRefusals, scanRefusals, chainRefusals, rowsShort, readRefusals, readNumber}
@@ -121,15 +122,11 @@ partitioned-chains file p = rw (p .once, p .each)
 -- a chain that ends before its steps do has no more records with more steps
 pub chain-more : (file : List ℕ) (steps more r : ℕ) → length (chain file steps r) < steps → steps ≤ more → chain file more r ≡ chain file steps r
 unfolding chain
-chain-more file zero more r h k = absurd (not-suc-le-zero h)
-chain-more file (suc steps) zero r h k = absurd (not-suc-le-zero k)
-chain-more file (suc steps) (suc more) zero h k = refl
-chain-more file (suc steps) (suc more) (suc r) h k =
-    ap (λ (l : List ℕ). suc r ∷ l) (chain-more file steps more (next file (suc r)) (le-of-suc-le-suc h) (le-of-suc-le-suc k))
+chain-more file steps more r h k = chain-longer (next file) steps more r h k
 
 -- the records of a chain are records of the file
 pub chain-in-range : (file : List ℕ) → Bounded file → (steps r : ℕ) → r ≤ edgeCount file → InRange (edgeCount file) (chain file steps r)
-unfolding chain
+unfolding chain chainFrom
 chain-in-range file b zero r h = in-range-nil (edgeCount file)
 chain-in-range file b (suc steps) zero h = in-range-nil (edgeCount file)
 chain-in-range file b (suc steps) (suc r) h =

@@ -3,7 +3,7 @@
 use Prim.Native.Nat.{ℕ, zero, suc, _+_, _*_}
 use mathlib.Core.List.{List, [], _∷_, map, flatten}
 use lib.ListN.{getD}
-use Rattle.lists.specs.Lists.{numbersFrom}
+use Rattle.lists.specs.Lists.{chainFrom, numbersFrom}
 use Rattle.graph.specs.Graph.{Graph}
 
 -- "16-bit words, low byte first": the word at place i
@@ -53,9 +53,7 @@ recordNexts file = wordsAt file (vertexCount file + 3) 2 (edgeCount file)
 
 -- "A head or next index names a record; zero ends the chain": the records met from r on, in at most `steps` steps
 unfoldable pub chain : List ℕ → ℕ → ℕ → List ℕ
-chain file zero r = []
-chain file (suc steps) zero = []
-chain file (suc steps) (suc r) = suc r ∷ chain file steps (next file (suc r))
+chain file steps r = chainFrom (next file) steps r
 
 -- the chain of each vertex. m + 1 steps are enough: a chain of more than m records meets one of them twice
 unfoldable pub chains : List ℕ → List (List ℕ)

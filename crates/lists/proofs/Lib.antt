@@ -1,4 +1,5 @@
 -- Facts about specs/Lists.antt that several crates' proofs cite.
+pub mod Chains
 pub mod Or
 pub mod Overlay
 pub mod Parts

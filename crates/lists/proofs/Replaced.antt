@@ -3,7 +3,7 @@ use Prim.Native.Nat.{ℕ, zero, suc, _<_}
 use native.Mathlib.Omega.{arith}
 use mathlib.Core.Path.{_≡_, refl}
 use mathlib.Core.List.{List, [], _∷_, map}
-use lib.ListN.{length, getD, set}
+use lib.ListN.{length, getD, drop, set}
 use lib.Seq.{set-set, set-comm}
 
 -- a function at each element, one of them replaced
@@ -20,3 +20,9 @@ map-agree f g d (x ∷ l) same = rw (same 0 (omega arith), map-agree f g d l (λ
 -- two elements replaced, and replaced again
 pub set-two-again : {A : Type 0} (l : List A) (i j : ℕ) (a b c d : A) → (i ≡ j → ⊥) → set (set (set (set l i a) j b) i c) j d ≡ set (set l i c) j d
 set-two-again l i j a b c d h = rw (set-comm l i j a b h, set-set (set l j b) i a c, ← set-comm l i j c b h, set-set (set l i c) j b d)
+
+-- from an element that is replaced on
+pub drop-set : {A : Type 0} (l : List A) (i : ℕ) (y : A) → i < length l → drop i (set l i y) ≡ y ∷ drop (suc i) l
+drop-set [] i y h = absurd (omega arith)
+drop-set (x ∷ l) zero y h = refl
+drop-set (x ∷ l) (suc i) y h = drop-set l i y (omega arith)

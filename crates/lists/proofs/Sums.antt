@@ -20,12 +20,12 @@ module _ {A : Type 0} (f : A → ℕ) where
   sum-set (x ∷ l) zero y d h = omega arith
   sum-set (x ∷ l) (suc i) y d h = omega (arith, sum-set l i y d (omega arith))
 
-  -- an element weighs no more than the list
-  pub sum-at : (l : List A) (i : ℕ) (d : A) → i < length l → f (getD l i d) ≤ sumOf f l
+  -- an element weighs no more than the list, nor does what is read past its end if that weighs nothing
+  pub sum-at : (l : List A) (i : ℕ) (d : A) → f d ≡ 0 → f (getD l i d) ≤ sumOf f l
   unfolding sumOf
-  sum-at [] i d h = absurd (omega arith)
+  sum-at [] i d h = omega arith
   sum-at (x ∷ l) zero d h = omega arith
-  sum-at (x ∷ l) (suc i) d h = omega (arith, sum-at l i d (omega arith))
+  sum-at (x ∷ l) (suc i) d h = omega (arith, sum-at l i d h)
 
 -- two weights that agree on the list
 pub sum-same : {A : Type 0} (f g : A → ℕ) (d : A) (l : List A) → ((i : ℕ) → i < length l → f (getD l i d) ≡ g (getD l i d)) → sumOf f l ≡ sumOf g l

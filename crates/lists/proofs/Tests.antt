@@ -260,19 +260,19 @@ reaches-elem limit (y ∷ l) e x f =
     let low = leb-false limit y (p .0) in
     elem-cases x y l f (λ (q : x ≡ y). omega arith) (reaches-elem limit l (p .1) x)
 
+-- and so is the number at each place
+pub reaches-at : (limit : ℕ) (l : List ℕ) (i : ℕ) → reaches limit l ≡ false → i < length l → getD l i 0 < limit
+unfolding reaches
+reaches-at limit [] i e h = absurd (omega arith)
+reaches-at limit (x ∷ l) zero e h = leb-false limit x (or-none (leb limit x) (reaches limit l) e .0)
+reaches-at limit (x ∷ l) (suc i) e h = reaches-at limit l i (or-none (leb limit x) (reaches limit l) e .1) (omega arith)
+
 -- a list of numbers under the limit
 pub elem-reaches : (limit : ℕ) (l : List ℕ) → ((x : ℕ) → elem x l ≡ true → x < limit) → reaches limit l ≡ false
 unfolding reaches
 elem-reaches limit [] h = refl
 elem-reaches limit (y ∷ l) h =
     none-or (leb limit y) (reaches limit l) (lt-leb limit y (h y (elem-first y l))) (elem-reaches limit l (λ x e. h x (elem-later x y l e)))
-
--- so is the number at each place of the list
-pub reaches-at : (limit : ℕ) (l : List ℕ) (i : ℕ) → reaches limit l ≡ false → i < length l → getD l i 0 < limit
-unfolding reaches
-reaches-at limit [] i e h = absurd (omega arith)
-reaches-at limit (x ∷ l) zero e h = leb-false limit x (or-none (leb limit x) (reaches limit l) e .0)
-reaches-at limit (x ∷ l) (suc i) e h = reaches-at limit l i (or-none (leb limit x) (reaches limit l) e .1) (omega arith)
 
 -- a list under a limit is under each greater one
 pub reaches-weaken : (small large : ℕ) (l : List ℕ) → small ≤ large → reaches small l ≡ false → reaches large l ≡ false

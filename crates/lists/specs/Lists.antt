@@ -1,4 +1,4 @@
--- Lists of numbers: one laid over another, consecutive numbers, running sums, and tests that compute. No vertex, edge or byte here.
+-- Lists: one laid over another, consecutive numbers, running sums, sums of a weight, chains, and tests that compute. No vertex, edge, byte or node here.
 use Prim.Native.Nat.{ℕ, zero, suc, _+_}
 use mathlib.Core.Bool.{Bool, false, not, _||_}
 use mathlib.Core.List.{List, [], _∷_, _++_}
@@ -48,3 +48,9 @@ fallsFrom x (y ∷ ys) = ltb y x || fallsFrom y ys
 unfoldable pub sumOf : {A : Type 0} → (A → ℕ) → List A → ℕ
 sumOf f [] = 0
 sumOf f (x ∷ xs) = f x + sumOf f xs
+
+-- "zero ends the chain": x, what is next after it, and so on, at most so many
+unfoldable pub chainFrom : (ℕ → ℕ) → ℕ → ℕ → List ℕ
+chainFrom next zero x = []
+chainFrom next (suc steps) zero = []
+chainFrom next (suc steps) (suc x) = suc x ∷ chainFrom next steps (next (suc x))

@@ -5,7 +5,8 @@ use mathlib.Core.Bool.{Bool, true, false, not}
 use mathlib.Core.List.{List, [], _∷_, map}
 use Prim.Native.Nat.{ℕ, zero, suc}
 use lib.ListN.{replicate}
-use Rattle.pennant.specs.Pennant.{null, node, Slot, gap, tip, pennantUnion, pennantKept, pennantHalf}
+use Rattle.lists.specs.Lists.{sumOf}
+use Rattle.pennant.specs.Pennant.{null, node, Slot, gap, tip, pennantUnion, pennantFirst, pennantSecond}
 use Rattle.pennant.specs.Bag.{Bag, emptyBag, insertPennant, bagInsert, insertFilled, adderSum, adderCarry, addFrom, bagUnion, splitFirst}
 use Rattle.pennant.specs.Bag.{splitSecond, spread, takeFrom, takeRest, takenNumber, isGap}
 use Rattle.pennant.specs.Held.{treeItems, slotItems, items, weighTree, weighSlot, weigh, size, Shaped}
@@ -28,56 +29,56 @@ unfolding pennantUnion
 case-union = refl
 
 -- a split undoes it: what is kept
-pub case-kept : pennantKept four ≡ pair 1 2
-unfolding pennantKept
-case-kept = refl
+pub case-pennant-first : pennantFirst four ≡ pair 1 2
+unfolding pennantFirst
+case-pennant-first = refl
 
 -- and what is split off
-pub case-half : pennantHalf four ≡ pair 3 4
-unfolding pennantHalf
-case-half = refl
+pub case-pennant-second : pennantSecond four ≡ pair 3 4
+unfolding pennantSecond
+case-pennant-second = refl
 
 -- sum and carry
-unfoldable pub adder : Slot → Slot → Slot → Slot × Slot
-adder x y z = (adderSum x y z, adderCarry x y z)
+unfoldable pub adderBoth : Slot → Slot → Slot → Slot × Slot
+adderBoth x y z = (adderSum x y z, adderCarry x y z)
 
 -- the eight rows on pennants of size 1: none, one, two and three of them there
-pub case-adder : adder gap gap gap
-    ∷ adder (lone 1) gap gap
-    ∷ adder gap (lone 2) gap
-    ∷ adder gap gap (lone 3)
-    ∷ adder (lone 1) (lone 2) gap
-    ∷ adder (lone 1) gap (lone 3)
-    ∷ adder gap (lone 2) (lone 3)
-    ∷ adder (lone 1) (lone 2) (lone 3)
+pub case-adder : adderBoth gap gap gap
+    ∷ adderBoth (lone 1) gap gap
+    ∷ adderBoth gap (lone 2) gap
+    ∷ adderBoth gap gap (lone 3)
+    ∷ adderBoth (lone 1) (lone 2) gap
+    ∷ adderBoth (lone 1) gap (lone 3)
+    ∷ adderBoth gap (lone 2) (lone 3)
+    ∷ adderBoth (lone 1) (lone 2) (lone 3)
     ∷ []
     ≡ (gap, gap) ∷ (lone 1, gap) ∷ (lone 2, gap) ∷ (lone 3, gap) ∷ (gap, pair 1 2) ∷ (gap, pair 1 3) ∷ (gap, pair 2 3) ∷ (lone 1, pair 2 3) ∷ []
-unfolding adder adderSum adderCarry pennantUnion
+unfolding adderBoth adderSum adderCarry pennantUnion
 case-adder = refl
 
 -- the bag after 1, 2, .., n are inserted
-unfoldable pub inserted : ℕ → Bag
-inserted zero = emptyBag
-inserted (suc n) = bagInsert (suc n) (inserted n)
+unfoldable pub upTo : ℕ → Bag
+upTo zero = emptyBag
+upTo (suc n) = bagInsert (suc n) (upTo n)
 
 -- 4 numbers fill slot 2
-pub case-four : inserted 4 ≡ gap ∷ gap ∷ four ∷ replicate 13 gap
-unfolding inserted emptyBag bagInsert insertPennant pennantUnion
+pub case-four : upTo 4 ≡ gap ∷ gap ∷ four ∷ replicate 13 gap
+unfolding upTo emptyBag bagInsert insertPennant pennantUnion
 case-four = refl
 
 -- take from them gives the root's number
-pub case-taken : takenNumber (inserted 4) ≡ 1
-unfolding inserted emptyBag bagInsert insertPennant pennantUnion takenNumber
+pub case-taken : takenNumber (upTo 4) ≡ 1
+unfolding upTo emptyBag bagInsert insertPennant pennantUnion takenNumber
 case-taken = refl
 
 -- and leaves the halves split off in slots 0 and 1
-pub case-rest : takeRest (inserted 4) ≡ lone 2 ∷ pair 3 4 ∷ replicate 14 gap
-unfolding inserted emptyBag bagInsert insertPennant pennantUnion takeRest takeFrom spread pennantKept pennantHalf
+pub case-rest : takeRest (upTo 4) ≡ lone 2 ∷ pair 3 4 ∷ replicate 14 gap
+unfolding upTo emptyBag bagInsert insertPennant pennantUnion takeRest takeFrom spread pennantFirst pennantSecond
 case-rest = refl
 
 -- 5 and 6 numbers joined: both have a pennant in slot 2, and no other slot carries
-pub case-joined : items (bagUnion (inserted 5) (inserted 6)) ≡ 5 ∷ 5 ∷ 6 ∷ 1 ∷ 1 ∷ 3 ∷ 4 ∷ 2 ∷ 3 ∷ 4 ∷ 2 ∷ []
-unfolding inserted emptyBag bagInsert insertPennant pennantUnion bagUnion addFrom adderSum adderCarry insertFilled items slotItems treeItems
+pub case-joined : items (bagUnion (upTo 5) (upTo 6)) ≡ 5 ∷ 5 ∷ 6 ∷ 1 ∷ 1 ∷ 3 ∷ 4 ∷ 2 ∷ 3 ∷ 4 ∷ 2 ∷ []
+unfolding upTo emptyBag bagInsert insertPennant pennantUnion bagUnion addFrom adderSum adderCarry insertFilled items slotItems treeItems
 case-joined = refl
 
 -- why insertPennant is asked to insert a pennant: no pennant, inserted before slot 0's, moves that one up to slot 1, where it does not belong
@@ -90,16 +91,16 @@ unfoldable pub filled : Bag → List Bool
 filled s = map (λ (x : Slot). not (isGap x)) s
 
 -- J: 23 numbers are in slots 0, 1, 2 and 4, as 23 is 1 + 2 + 4 + 16
-pub case-filled : filled (inserted 23) ≡ true ∷ true ∷ true ∷ false ∷ true ∷ replicate 11 false
-unfolding filled inserted emptyBag bagInsert insertPennant pennantUnion
+pub case-filled : filled (upTo 23) ≡ true ∷ true ∷ true ∷ false ∷ true ∷ replicate 11 false
+unfolding filled upTo emptyBag bagInsert insertPennant pennantUnion
 case-filled = refl
 
 -- a split leaves 12 of them
-pub case-first : size (splitFirst (inserted 23)) ≡ 12
-unfolding inserted emptyBag bagInsert insertPennant pennantUnion splitFirst insertFilled pennantKept weigh weighSlot weighTree
+pub case-first : size (splitFirst (upTo 23)) ≡ 12
+unfolding upTo emptyBag bagInsert insertPennant pennantUnion splitFirst insertFilled pennantFirst weigh weighSlot weighTree sumOf
 case-first = refl
 
 -- and returns 11
-pub case-second : size (splitSecond (inserted 23)) ≡ 11
-unfolding inserted emptyBag bagInsert insertPennant pennantUnion splitSecond pennantHalf weigh weighSlot weighTree
+pub case-second : size (splitSecond (upTo 23)) ≡ 11
+unfolding upTo emptyBag bagInsert insertPennant pennantUnion splitSecond pennantSecond weigh weighSlot weighTree sumOf
 case-second = refl

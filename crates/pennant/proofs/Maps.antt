@@ -4,11 +4,12 @@ use mathlib.Core.Bool.{false, not, true≢false}
 use mathlib.Core.List.{[], _∷_, _++_, map}
 use Prim.Native.Nat.{ℕ, zero, suc, _≤_}
 use native.Mathlib.Omega.{arith}
-use lib.ListN.{length, getD, replicate, length-map, List·getD-map}
-use Rattle.pennant.specs.Pennant.{Tree, null, node, Slot, gap, tip, pennantUnion, pennantKept, pennantHalf}
+use lib.ListN.{length, replicate, length-map}
+use Rattle.lists.specs.Lists.{sumOf}
+use Rattle.pennant.specs.Pennant.{Tree, null, node, Slot, gap, tip, pennantUnion, pennantFirst, pennantSecond}
 use Rattle.pennant.specs.Bag.{Bag, slotCount, emptyBag, insertPennant, bagInsert, insertFilled, adderSum, adderCarry, addFrom, bagUnion}
-use Rattle.pennant.specs.Bag.{splitFirst, splitSecond, spread, takeFrom, takeRest, takenNumber, isGap, isEmpty, atLeastTwo}
-use Rattle.pennant.specs.Held.{weighTree, weighSlot, weigh, only, count, Complete, Pennant, ShapedFrom, Shaped, mapTree, mapSlot, mapBag}
+use Rattle.pennant.specs.Bag.{splitFirst, splitSecond, spread, takeFrom, takeRest, takenNumber, isEmpty, atLeastTwo}
+use Rattle.pennant.specs.Held.{weighTree, weighSlot, weigh, only, copies, Complete, Pennant, ShapedFrom, Shaped, mapTree, mapSlot, mapBag}
 use Rattle.pennant.proofs.Weights.{only-self}
 
 -- Pennants.
@@ -21,24 +22,18 @@ map-pennant-union g (tip a x) gap = refl
 map-pennant-union g (tip a x) (tip b y) = refl
 
 -- what a split keeps
-pub map-kept : (g : ℕ → ℕ) (x : Slot) → mapSlot g (pennantKept x) ≡ pennantKept (mapSlot g x)
-unfolding pennantKept mapSlot mapTree
-map-kept g gap = refl
-map-kept g (tip a null) = refl
-map-kept g (tip a (node b y x)) = refl
+pub map-pennant-first : (g : ℕ → ℕ) (x : Slot) → mapSlot g (pennantFirst x) ≡ pennantFirst (mapSlot g x)
+unfolding pennantFirst mapSlot mapTree
+map-pennant-first g gap = refl
+map-pennant-first g (tip a null) = refl
+map-pennant-first g (tip a (node b y x)) = refl
 
 -- what it splits off
-pub map-half : (g : ℕ → ℕ) (x : Slot) → mapSlot g (pennantHalf x) ≡ pennantHalf (mapSlot g x)
-unfolding pennantHalf mapSlot mapTree
-map-half g gap = refl
-map-half g (tip a null) = refl
-map-half g (tip a (node b y x)) = refl
-
--- whether there is a pennant
-pub map-gap : (g : ℕ → ℕ) (x : Slot) → isGap (mapSlot g x) ≡ isGap x
-unfolding mapSlot
-map-gap g gap = refl
-map-gap g (tip a t) = refl
+pub map-pennant-second : (g : ℕ → ℕ) (x : Slot) → mapSlot g (pennantSecond x) ≡ pennantSecond (mapSlot g x)
+unfolding pennantSecond mapSlot mapTree
+map-pennant-second g gap = refl
+map-pennant-second g (tip a null) = refl
+map-pennant-second g (tip a (node b y x)) = refl
 
 -- The backbone.
 
@@ -46,11 +41,6 @@ map-gap g (tip a t) = refl
 pub map-length : (g : ℕ → ℕ) (s : Bag) → length (mapBag g s) ≡ length s
 unfolding mapBag
 map-length g s = length-map s (mapSlot g)
-
--- slot by slot
-pub map-slot : (g : ℕ → ℕ) (s : Bag) (k : ℕ) → getD (mapBag g s) k gap ≡ mapSlot g (getD s k gap)
-unfolding mapBag mapSlot
-map-slot g s k = List·getD-map (mapSlot g) s k gap
 
 -- empty slots
 pub map-gaps : (g : ℕ → ℕ) (n : ℕ) → mapBag g (replicate n gap) ≡ replicate n gap
@@ -123,29 +113,23 @@ map-union g s t = map-add-from g gap s t
 
 -- Split.
 
--- the halves kept
-map-kept-all : (g : ℕ → ℕ) (s : Bag) → mapBag g (map pennantKept s ++ gap ∷ []) ≡ map pennantKept (mapBag g s) ++ gap ∷ []
+-- what h makes of each pennant, and an empty slot at the end
+map-lower : (g : ℕ → ℕ) (h : Slot → Slot) → ((x : Slot) → mapSlot g (h x) ≡ h (mapSlot g x)) → (s : Bag) → mapBag g (map h s ++ gap ∷ []) ≡ map h (mapBag g s) ++ gap ∷ []
 unfolding mapBag mapSlot
-map-kept-all g [] = refl
-map-kept-all g (x ∷ s) = rw (map-kept g x, map-kept-all g s)
-
--- the halves split off
-map-half-all : (g : ℕ → ℕ) (s : Bag) → mapBag g (map pennantHalf s ++ gap ∷ []) ≡ map pennantHalf (mapBag g s) ++ gap ∷ []
-unfolding mapBag mapSlot
-map-half-all g [] = refl
-map-half-all g (x ∷ s) = rw (map-half g x, map-half-all g s)
+map-lower g h same [] = refl
+map-lower g h same (x ∷ s) = rw (same x, map-lower g h same s)
 
 -- what a split leaves
 pub map-first : (g : ℕ → ℕ) (s : Bag) → mapBag g (splitFirst s) ≡ splitFirst (mapBag g s)
 unfolding splitFirst mapBag
 map-first g [] = refl
-map-first g (y ∷ s) = rw (map-insert-filled g y (map pennantKept s ++ gap ∷ []), map-kept-all g s)
+map-first g (y ∷ s) = rw (map-insert-filled g y (map pennantFirst s ++ gap ∷ []), map-lower g pennantFirst (map-pennant-first g) s)
 
 -- what a split returns
 pub map-second : (g : ℕ → ℕ) (s : Bag) → mapBag g (splitSecond s) ≡ splitSecond (mapBag g s)
 unfolding splitSecond mapBag
 map-second g [] = refl
-map-second g (y ∷ s) = map-half-all g s
+map-second g (y ∷ s) = map-lower g pennantSecond (map-pennant-second g) s
 
 -- Take.
 
@@ -153,7 +137,7 @@ map-second g (y ∷ s) = map-half-all g s
 pub map-spread : (g : ℕ → ℕ) (k : ℕ) (x : Slot) (s : Bag) → mapBag g (spread k x s) ≡ spread k (mapSlot g x) (mapBag g s)
 unfolding spread mapBag
 map-spread g zero x s = refl
-map-spread g (suc k) x s = rw (map-spread g k (pennantKept x) (pennantHalf x ∷ s), map-kept g x, map-half g x)
+map-spread g (suc k) x s = rw (map-spread g k (pennantFirst x) (pennantSecond x ∷ s), map-pennant-first g x, map-pennant-second g x)
 
 -- what take leaves, the first k slots being empty
 pub map-take-from : (g : ℕ → ℕ) (k : ℕ) (s : Bag) → mapBag g (takeFrom k s) ≡ takeFrom k (mapBag g s)
@@ -203,7 +187,7 @@ weigh-map-slot f g (tip a t) = rw (weigh-map-tree f g t)
 
 -- a bag
 pub weigh-map : (f g : ℕ → ℕ) (s : Bag) → weigh f (mapBag g s) ≡ weigh (λ x. f (g x)) s
-unfolding weigh mapBag
+unfolding weigh mapBag sumOf
 weigh-map f g [] = refl
 weigh-map f g (x ∷ s) = rw (weigh-map-slot f g x, weigh-map f g s)
 
@@ -247,7 +231,7 @@ map-same-slot g h gap e = refl
 map-same-slot g h (tip a t) e = rw (e a (omega (arith, only-self a)), map-same-tree g h t (λ i k. e i (omega arith)))
 
 -- on a bag
-pub map-same : (g h : ℕ → ℕ) (s : Bag) → ((i : ℕ) → 1 ≤ count i s → g i ≡ h i) → mapBag g s ≡ mapBag h s
-unfolding weigh mapBag
+pub map-same : (g h : ℕ → ℕ) (s : Bag) → ((i : ℕ) → 1 ≤ copies i s → g i ≡ h i) → mapBag g s ≡ mapBag h s
+unfolding weigh mapBag sumOf
 map-same g h [] e = refl
 map-same g h (x ∷ s) e = rw (map-same-slot g h x (λ i k. e i (omega arith)), map-same g h s (λ i k. e i (omega arith)))

@@ -6,7 +6,8 @@ use mathlib.Core.List.{[], _∷_, _++_, map}
 use Prim.Native.Nat.{ℕ, zero, suc, _+_}
 use native.Mathlib.Omega.{arith}
 use lib.ListN.{replicate}
-use Rattle.pennant.specs.Pennant.{Tree, null, node, Slot, gap, tip, pennantUnion, pennantKept, pennantHalf}
+use Rattle.lists.specs.Lists.{sumOf}
+use Rattle.pennant.specs.Pennant.{Tree, null, node, Slot, gap, tip, pennantUnion, pennantFirst, pennantSecond}
 use Rattle.pennant.specs.Bag.{Bag, slotCount, emptyBag, insertPennant, bagInsert, insertFilled, adderSum, adderCarry, addFrom, bagUnion}
 use Rattle.pennant.specs.Bag.{splitFirst, splitSecond, spread, takeFrom, takeRest, takenNumber, isGap, isEmpty}
 use Rattle.pennant.specs.Held.{weighTree, weighSlot, weigh, Complete, Pennant, ShapedFrom, Shaped}
@@ -28,18 +29,18 @@ pennant-union-filled (tip a x) gap e = refl
 pennant-union-filled (tip a x) (tip b y) e = refl
 
 -- what a split keeps of a pennant of size 2^(k+1) has size 2^k
-pub kept-shape : (k : ℕ) (x : Slot) → Pennant (suc k) x → Pennant k (pennantKept x)
-unfolding pennantKept
-kept-shape k gap p = tt
-kept-shape k (tip a null) p = absurd p
-kept-shape k (tip a (node b y x)) p = p .1
+pub first-shape : (k : ℕ) (x : Slot) → Pennant (suc k) x → Pennant k (pennantFirst x)
+unfolding pennantFirst
+first-shape k gap p = tt
+first-shape k (tip a null) p = absurd p
+first-shape k (tip a (node b y x)) p = p .1
 
 -- and so has what it splits off
-pub half-shape : (k : ℕ) (x : Slot) → Pennant (suc k) x → Pennant k (pennantHalf x)
-unfolding pennantHalf
-half-shape k gap p = tt
-half-shape k (tip a null) p = absurd p
-half-shape k (tip a (node b y x)) p = p .0
+pub second-shape : (k : ℕ) (x : Slot) → Pennant (suc k) x → Pennant k (pennantSecond x)
+unfolding pennantSecond
+second-shape k gap p = tt
+second-shape k (tip a null) p = absurd p
+second-shape k (tip a (node b y x)) p = p .0
 
 -- The empty bag.
 
@@ -115,27 +116,22 @@ shaped-union s t g h = shaped-add-from 0 gap s t tt g h
 
 -- Split.
 
--- the halves kept, one slot down, and an empty slot at the end
-pub shaped-kept : (k : ℕ) (s : Bag) → ShapedFrom (suc k) s → ShapedFrom k (map pennantKept s ++ gap ∷ [])
-shaped-kept k [] h = (tt, tt)
-shaped-kept k (x ∷ s) h = (kept-shape k x (h .0), shaped-kept (suc k) s (h .1))
-
--- the halves split off, one slot down, and an empty slot at the end
-pub shaped-half : (k : ℕ) (s : Bag) → ShapedFrom (suc k) s → ShapedFrom k (map pennantHalf s ++ gap ∷ [])
-shaped-half k [] h = (tt, tt)
-shaped-half k (x ∷ s) h = (half-shape k x (h .0), shaped-half (suc k) s (h .1))
+-- what h makes of each pennant, one slot down, and an empty slot at the end
+pub shaped-lower : (h : Slot → Slot) → ((k : ℕ) (x : Slot) → Pennant (suc k) x → Pennant k (h x)) → (k : ℕ) (s : Bag) → ShapedFrom (suc k) s → ShapedFrom k (map h s ++ gap ∷ [])
+shaped-lower h lower k [] p = (tt, tt)
+shaped-lower h lower k (x ∷ s) p = (lower k x (p .0), shaped-lower h lower (suc k) s (p .1))
 
 -- what a split leaves
 pub shaped-first : (s : Bag) → Shaped s → Shaped (splitFirst s)
 unfolding splitFirst
 shaped-first [] h = tt
-shaped-first (y ∷ s) h = shaped-insert-filled 0 y (map pennantKept s ++ gap ∷ []) (h .0) (shaped-kept 0 s (h .1))
+shaped-first (y ∷ s) h = shaped-insert-filled 0 y (map pennantFirst s ++ gap ∷ []) (h .0) (shaped-lower pennantFirst first-shape 0 s (h .1))
 
 -- what a split returns
 pub shaped-second : (s : Bag) → Shaped s → Shaped (splitSecond s)
 unfolding splitSecond
 shaped-second [] h = tt
-shaped-second (y ∷ s) h = shaped-half 0 s (h .1)
+shaped-second (y ∷ s) h = shaped-lower pennantSecond second-shape 0 s (h .1)
 
 -- Take.
 
@@ -143,7 +139,7 @@ shaped-second (y ∷ s) h = shaped-half 0 s (h .1)
 pub shaped-spread : (k : ℕ) (x : Slot) (s : Bag) → Pennant k x → ShapedFrom k s → Shaped (spread k x s)
 unfolding spread
 shaped-spread zero x s p h = h
-shaped-spread (suc k) x s p h = shaped-spread k (pennantKept x) (pennantHalf x ∷ s) (kept-shape k x p) (half-shape k x p, h)
+shaped-spread (suc k) x s p h = shaped-spread k (pennantFirst x) (pennantSecond x ∷ s) (first-shape k x p) (second-shape k x p, h)
 
 -- what take leaves, the first k slots being empty
 pub shaped-take-from : (k : ℕ) (s : Bag) → ShapedFrom k s → Shaped (takeFrom k s)
@@ -159,7 +155,7 @@ shaped-rest s h = shaped-take-from 0 s h
 
 -- a pennant spread, and its root's number, weigh what the pennant weighed
 pub weigh-spread : (f : ℕ → ℕ) (k a : ℕ) (t : Tree) (s : Bag) → Complete k t → f a + weigh f (spread k (tip a t) s) ≡ weighSlot f (tip a t) + weigh f s
-unfolding spread pennantKept pennantHalf weigh weighSlot weighTree
+unfolding spread pennantFirst pennantSecond weigh weighSlot weighTree sumOf
 weigh-spread f zero a null s c = omega arith
 weigh-spread f zero a (node b l r) s c = absurd c
 weigh-spread f (suc k) a null s c = absurd c
@@ -167,7 +163,7 @@ weigh-spread f (suc k) a (node b l r) s c = omega (arith, weigh-spread f k a r (
 
 -- the number taken and what take leaves, the first k slots being empty
 pub weigh-take-from : (f : ℕ → ℕ) (k : ℕ) (s : Bag) → ShapedFrom k s → isEmpty s ≡ false → f (takenNumber s) + weigh f (takeFrom k s) ≡ weigh f s
-unfolding takeFrom takenNumber isEmpty weigh weighSlot
+unfolding takeFrom takenNumber isEmpty weigh weighSlot sumOf
 weigh-take-from f k [] h e = absurd (true≢false e)
 weigh-take-from f k (gap ∷ s) h e = omega (arith, weigh-take-from f (suc k) s (h .1) e)
 weigh-take-from f k (tip a t ∷ s) h e = omega (arith, weigh-spread f k a t (gap ∷ s) (h .0))

@@ -6,15 +6,16 @@ use mathlib.Core.List.{[], _∷_, _++_, map}
 use Prim.Native.Nat.{ℕ, zero, suc, _+_, _-_, _/_, _^_, _≤_, _<_}
 use native.Mathlib.Nat.{add-zero, zero-add, add-suc, suc-add, pow-le-pow-right}
 use native.Mathlib.Omega.{arith}
-use lib.Dec.{leb}
+use lib.Dec.{leb, ltb}
 use lib.ListN.{length, getD, length-append, length-map, length-replicate}
-use borrow.Author.Tests.{leb-true, le-leb, lt-leb}
-use Rattle.pennant.specs.Pennant.{Tree, null, node, Slot, gap, tip, pennantUnion, pennantKept, pennantHalf}
+use borrow.Author.Tests.{leb-true, le-leb, lt-leb, ltb-true, ltb-false}
+use Rattle.lists.specs.Lists.{sumOf}
+use Rattle.pennant.specs.Pennant.{Tree, null, node, Slot, gap, tip, pennantUnion, pennantFirst, pennantSecond}
 use Rattle.pennant.specs.Bag.{Bag, slotCount, emptyBag, insertPennant, bagInsert, insertFilled, adderCarry, addFrom, bagUnion, splitFirst}
 use Rattle.pennant.specs.Bag.{splitSecond, spread, takeFrom, takeRest, isGap, isEmpty, atLeastTwo}
 use Rattle.pennant.specs.Held.{weighTree, weighSlot, weigh, one, size, Complete, Pennant, ShapedFrom, Shaped}
 use Rattle.pennant.proofs.Weights.{weigh-pennant-union, weigh-slot-within, weigh-adder, weigh-halves, weigh-end, weigh-split, empty-weighs, filled-size, sized-filled}
-use Rattle.pennant.proofs.Shapes.{pennant-union-shape, pennant-union-filled, adder-carry-shape, shaped-kept}
+use Rattle.pennant.proofs.Shapes.{pennant-union-shape, pennant-union-filled, first-shape, adder-carry-shape, shaped-lower}
 
 -- Pennants and slots.
 
@@ -60,41 +61,49 @@ slot-size s h k e = rw (zero-add k) at (slot-size-from 0 s h k e)
 pub slot-within : (s : Bag) → Shaped s → (k : ℕ) → isGap (getD s k gap) ≡ false → 2 ^ k ≤ size s
 slot-within s h k e = omega (arith, slot-size s h k e, weigh-slot-within one s k)
 
+-- a power of two that is less than another
+pub power-below : (k n : ℕ) → 2 ^ k < 2 ^ n → k < n
+power-below k n small = go (ltb k n) refl
+  where
+    go : (b : Bool) → ltb k n ≡ b → k < n
+    go true e = ltb-true k n e
+    go false e =
+        let large : 2 ^ n ≤ 2 ^ k = pow-le-pow-right (omega arith) (ltb-false k n e) in
+        absurd (omega arith)
+
 -- with fewer than 2^16 numbers no slot above 15 is filled
-pub no-slot-above : (s : Bag) → Shaped s → size s < 2 ^ 16 → (k : ℕ) → 16 ≤ k → isGap (getD s k gap) ≡ true
+pub no-slot-above : (s : Bag) → Shaped s → size s < 2 ^ slotCount → (k : ℕ) → slotCount ≤ k → isGap (getD s k gap) ≡ true
 no-slot-above s h small k above = go (isGap (getD s k gap)) refl
   where
     go : (b : Bool) → isGap (getD s k gap) ≡ b → b ≡ true
     go true e = refl
-    go false e =
-        let large : 2 ^ 16 ≤ 2 ^ k = pow-le-pow-right (omega arith) above in
-        absurd (omega (arith, slot-within s h k e))
+    go false e = absurd (omega (arith, power-below k slotCount (omega (arith, slot-within s h k e))))
 
 -- Halves.
 
 -- a split of a pennant keeps as much as it splits off
-pub pennant-halves : (k : ℕ) (x : Slot) → Pennant (suc k) x → weighSlot one (pennantKept x) ≡ weighSlot one (pennantHalf x)
-unfolding pennantKept pennantHalf weighSlot
+pub pennant-halves : (k : ℕ) (x : Slot) → Pennant (suc k) x → weighSlot one (pennantFirst x) ≡ weighSlot one (pennantSecond x)
+unfolding pennantFirst pennantSecond weighSlot
 pennant-halves k gap p = refl
 pennant-halves k (tip a null) p = absurd p
 pennant-halves k (tip a (node b y x)) p = omega (arith, complete-size k y (p .0), complete-size k x (p .1))
 
 -- every pennant above slot 0 split: as much is kept as is split off
-same-halves : (k : ℕ) (s : Bag) → ShapedFrom (suc k) s → weigh one (map pennantKept s) ≡ weigh one (map pennantHalf s)
-unfolding weigh
+same-halves : (k : ℕ) (s : Bag) → ShapedFrom (suc k) s → weigh one (map pennantFirst s) ≡ weigh one (map pennantSecond s)
+unfolding weigh sumOf
 same-halves k [] h = refl
 same-halves k (x ∷ s) h = omega (arith, pennant-halves k x (h .0), same-halves (suc k) s (h .1))
 
 -- a split leaves the greater half and returns the lesser
 pub split-sizes : (s : Bag) → Shaped s → (size (splitFirst s) ≡ size s - size s / 2) × (size (splitSecond s) ≡ size s / 2)
-unfolding splitSecond weigh
+unfolding splitSecond weigh sumOf
 split-sizes [] h = omega (arith, weigh-split one [])
 split-sizes (y ∷ s) h =
-    omega (arith, weigh-split one (y ∷ s), weigh-end one (map pennantHalf s), weigh-halves one s, same-halves 0 s (h .1), pennant-within 0 y (h .0))
+    omega (arith, weigh-split one (y ∷ s), weigh-end one (map pennantSecond s), weigh-halves one s, same-halves 0 s (h .1), pennant-within 0 y (h .0))
 
 -- there are at least two where the size is at least 2
 pub two-size : (s : Bag) → Shaped s → atLeastTwo s ≡ leb 2 (size s)
-unfolding atLeastTwo weigh
+unfolding atLeastTwo weigh sumOf
 two-size [] h = refl
 two-size (x ∷ s) h = go (isEmpty s) refl
   where
@@ -113,7 +122,7 @@ split-filled s h e =
 
 -- the slots from k on hold at most what their number allows
 size-from : (k : ℕ) (s : Bag) → ShapedFrom k s → weigh one s + 2 ^ k ≤ 2 ^ (k + length s)
-unfolding weigh
+unfolding weigh sumOf
 size-from k [] h = omega (arith, power-end k)
 size-from k (x ∷ s) h = omega (arith, pennant-within k x (h .0), size-from (suc k) s (h .1), power-up k (length s))
 
@@ -131,7 +140,7 @@ length-empty = length-replicate slotCount gap
 -- a pennant inserted needs no slot more if there is room
 pub length-insert-pennant : (k : ℕ) (x : Slot) (s : Bag) → Pennant k x → isGap x ≡ false → ShapedFrom k s → weighSlot one x + weigh one s < 2 ^ (k + length s)
     → length (insertPennant x s) ≡ length s
-unfolding insertPennant weigh
+unfolding insertPennant weigh sumOf
 length-insert-pennant k x [] p e h small = absurd (omega (arith, pennant-size k x p e, power-end k))
 length-insert-pennant k x (gap ∷ s) p e h small = refl
 length-insert-pennant k x (tip a t ∷ s) p e h small =
@@ -155,7 +164,7 @@ length-insert-filled k (tip a t) s p h small = length-insert-pennant k (tip a t)
 -- two bags of one length added from a carry on need no slot more if there is room
 pub length-add-from : (k : ℕ) (y : Slot) (s t : Bag) → Pennant k y → ShapedFrom k s → ShapedFrom k t → length t ≡ length s
     → weighSlot one y + weigh one s + weigh one t < 2 ^ (k + length s) → length (addFrom y s t) ≡ length s
-unfolding addFrom weigh
+unfolding addFrom weigh sumOf
 length-add-from k y [] [] p g h l small = length-insert-filled k y [] p tt (omega arith)
 length-add-from k y [] (b ∷ t) p g h l small = absurd (omega arith)
 length-add-from k y (a ∷ s) [] p g h l small = absurd (omega arith)
@@ -176,25 +185,25 @@ length-down f s = simp (length-append, length-map) (omega arith)
 
 -- what a split leaves has as many slots
 pub length-first : (s : Bag) → Shaped s → length (splitFirst s) ≡ length s
-unfolding splitFirst weigh
+unfolding splitFirst weigh sumOf
 length-first [] h = refl
 length-first (y ∷ s) h =
-    let rest = map pennantKept s ++ gap ∷ [] in
-    let fits : weighSlot one y + weigh one rest < 2 ^ suc (length s) = omega (arith, size-within (y ∷ s) h, weigh-end one (map pennantKept s), weigh-halves one s) in
-    let room : weighSlot one y + weigh one rest < 2 ^ (0 + length rest) = rw (length-down pennantKept s, zero-add) fits in
-    length-insert-filled 0 y rest (h .0) (shaped-kept 0 s (h .1)) room ∙ length-down pennantKept s
+    let rest = map pennantFirst s ++ gap ∷ [] in
+    let fits : weighSlot one y + weigh one rest < 2 ^ suc (length s) = omega (arith, size-within (y ∷ s) h, weigh-end one (map pennantFirst s), weigh-halves one s) in
+    let room : weighSlot one y + weigh one rest < 2 ^ (0 + length rest) = rw (length-down pennantFirst s, zero-add) fits in
+    length-insert-filled 0 y rest (h .0) (shaped-lower pennantFirst first-shape 0 s (h .1)) room ∙ length-down pennantFirst s
 
 -- what a split returns has as many slots
 pub length-second : (s : Bag) → length (splitSecond s) ≡ length s
 unfolding splitSecond
 length-second [] = refl
-length-second (y ∷ s) = length-down pennantHalf s
+length-second (y ∷ s) = length-down pennantSecond s
 
 -- a pennant spread over k slots
 pub length-spread : (k : ℕ) (x : Slot) (s : Bag) → length (spread k x s) ≡ k + length s
 unfolding spread
 length-spread zero x s = omega arith
-length-spread (suc k) x s = omega (arith, length-spread k (pennantKept x) (pennantHalf x ∷ s))
+length-spread (suc k) x s = omega (arith, length-spread k (pennantFirst x) (pennantSecond x ∷ s))
 
 -- what take leaves, k slots being empty before
 pub length-take-from : (k : ℕ) (s : Bag) → length (takeFrom k s) ≡ k + length s

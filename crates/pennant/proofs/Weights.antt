@@ -1,7 +1,7 @@
 -- What each operation on pennants and bags does to a weight: the sum of any f over the numbers held is kept, so no number is lost and
 -- none is made. No shape is asked for.
 use mathlib.Core.Path.{_≡_, refl, sym, _∙_}
-use mathlib.Core.Bool.{Bool, true, false, cond, true≢false}
+use mathlib.Core.Bool.{true, false, true≢false}
 use mathlib.Core.List.{[], _∷_, _++_, map}
 use Prim.Native.Nat.{ℕ, zero, suc, _+_, _≤_}
 use native.Mathlib.Nat.{zero-add}
@@ -10,11 +10,11 @@ use lib.Dec.{eqb}
 use lib.ListN.{getD, replicate}
 use borrow.Author.Tests.{eqb-false, eq-eqb, ne-eqb}
 use Rattle.lists.specs.Lists.{sumOf}
-use Rattle.lists.proofs.Sums.{sum-append}
-use Rattle.pennant.specs.Pennant.{Tree, null, node, Slot, gap, tip, pennantUnion, pennantKept, pennantHalf}
+use Rattle.lists.proofs.Sums.{sum-append, sum-at}
+use Rattle.pennant.specs.Pennant.{Tree, null, node, Slot, gap, tip, pennantUnion, pennantFirst, pennantSecond}
 use Rattle.pennant.specs.Bag.{Bag, slotCount, emptyBag, insertPennant, bagInsert, insertFilled, adderSum, adderCarry, addFrom, bagUnion}
 use Rattle.pennant.specs.Bag.{splitFirst, splitSecond, takenNumber, isEmpty}
-use Rattle.pennant.specs.Held.{treeItems, slotItems, items, weighTree, weighSlot, weigh, one, only, size, count}
+use Rattle.pennant.specs.Held.{treeItems, slotItems, items, weighTree, weighSlot, weigh, one, only, size, copies}
 
 -- Pennants.
 
@@ -26,8 +26,8 @@ weigh-pennant-union f (tip a x) gap = omega arith
 weigh-pennant-union f (tip a x) (tip b y) = omega arith
 
 -- the two halves of a split weigh what the pennant weighed
-pub weigh-pennant-split : (f : ℕ → ℕ) (x : Slot) → weighSlot f (pennantKept x) + weighSlot f (pennantHalf x) ≡ weighSlot f x
-unfolding pennantKept pennantHalf weighSlot weighTree
+pub weigh-pennant-split : (f : ℕ → ℕ) (x : Slot) → weighSlot f (pennantFirst x) + weighSlot f (pennantSecond x) ≡ weighSlot f x
+unfolding pennantFirst pennantSecond weighSlot weighTree
 weigh-pennant-split f gap = omega arith
 weigh-pennant-split f (tip a null) = omega arith
 weigh-pennant-split f (tip a (node b y x)) = omega arith
@@ -36,7 +36,7 @@ weigh-pennant-split f (tip a (node b y x)) = omega arith
 
 -- empty slots weigh nothing
 pub weigh-gaps : (f : ℕ → ℕ) (n : ℕ) → weigh f (replicate n gap) ≡ 0
-unfolding weigh weighSlot
+unfolding weigh weighSlot sumOf
 weigh-gaps f zero = refl
 weigh-gaps f (suc n) = omega (arith, weigh-gaps f n)
 
@@ -49,7 +49,7 @@ weigh-empty f = weigh-gaps f slotCount
 
 -- a pennant inserted adds its weight
 pub weigh-insert-pennant : (f : ℕ → ℕ) (x : Slot) (s : Bag) → weigh f (insertPennant x s) ≡ weighSlot f x + weigh f s
-unfolding insertPennant weigh weighSlot
+unfolding insertPennant weigh weighSlot sumOf
 weigh-insert-pennant f x [] = refl
 weigh-insert-pennant f x (gap ∷ s) = omega arith
 weigh-insert-pennant f x (tip a t ∷ s) = omega (arith, weigh-insert-pennant f (pennantUnion (tip a t) x) s, weigh-pennant-union f (tip a t) x)
@@ -81,7 +81,7 @@ weigh-adder f (tip a x) (tip b y) (tip c z) = omega (arith, weigh-pennant-union 
 
 -- two bags added from a carry on weigh what the three weigh
 pub weigh-add-from : (f : ℕ → ℕ) (y : Slot) (s t : Bag) → weigh f (addFrom y s t) ≡ weighSlot f y + weigh f s + weigh f t
-unfolding addFrom weigh
+unfolding addFrom weigh sumOf
 weigh-add-from f y [] t = omega (arith, weigh-insert-filled f y t)
 weigh-add-from f y (a ∷ s) [] = omega (arith, weigh-insert-filled f y (a ∷ s))
 weigh-add-from f y (a ∷ s) (b ∷ t) = omega (arith, weigh-add-from f (adderCarry a b y) s t, weigh-adder f a b y)
@@ -96,35 +96,32 @@ weigh-union f s t = omega (arith, weigh-add-from f gap s t)
 -- slots laid end to end
 pub weigh-append : (f : ℕ → ℕ) (s t : Bag) → weigh f (s ++ t) ≡ weigh f s + weigh f t
 unfolding weigh
-weigh-append f [] t = omega arith
-weigh-append f (x ∷ s) t = omega (arith, weigh-append f s t)
+weigh-append f s t = sum-append (weighSlot f) s t
 
 -- every pennant split: the halves kept and the halves split off weigh what the pennants weighed
-pub weigh-halves : (f : ℕ → ℕ) (s : Bag) → weigh f (map pennantKept s) + weigh f (map pennantHalf s) ≡ weigh f s
-unfolding weigh
+pub weigh-halves : (f : ℕ → ℕ) (s : Bag) → weigh f (map pennantFirst s) + weigh f (map pennantSecond s) ≡ weigh f s
+unfolding weigh sumOf
 weigh-halves f [] = refl
 weigh-halves f (x ∷ s) = omega (arith, weigh-halves f s, weigh-pennant-split f x)
 
 -- an empty slot at the end weighs nothing
 pub weigh-end : (f : ℕ → ℕ) (s : Bag) → weigh f (s ++ gap ∷ []) ≡ weigh f s
-unfolding weigh weighSlot
+unfolding weigh weighSlot sumOf
 weigh-end f s = omega (arith, weigh-append f s (gap ∷ []))
 
 -- the two bags of a split weigh what the bag weighed
 pub weigh-split : (f : ℕ → ℕ) (s : Bag) → weigh f (splitFirst s) + weigh f (splitSecond s) ≡ weigh f s
-unfolding splitFirst splitSecond weigh
+unfolding splitFirst splitSecond weigh sumOf
 weigh-split f [] = refl
 weigh-split f (y ∷ s) =
-    omega (arith, weigh-insert-filled f y (map pennantKept s ++ gap ∷ []), weigh-end f (map pennantKept s), weigh-end f (map pennantHalf s), weigh-halves f s)
+    omega (arith, weigh-insert-filled f y (map pennantFirst s ++ gap ∷ []), weigh-end f (map pennantFirst s), weigh-end f (map pennantSecond s), weigh-halves f s)
 
 -- One slot.
 
 -- a slot weighs no more than the bag
 pub weigh-slot-within : (f : ℕ → ℕ) (s : Bag) (k : ℕ) → weighSlot f (getD s k gap) ≤ weigh f s
 unfolding weigh weighSlot
-weigh-slot-within f [] k = omega arith
-weigh-slot-within f (x ∷ s) zero = omega arith
-weigh-slot-within f (x ∷ s) (suc k) = omega (arith, weigh-slot-within f s k)
+weigh-slot-within f s k = sum-at (weighSlot f) s k gap refl
 
 -- The numbers held, as a list.
 
@@ -146,58 +143,24 @@ unfolding weigh items sumOf
 weigh-items f [] = refl
 weigh-items f (x ∷ s) = omega (arith, weigh-slot-items f x, weigh-items f s, sum-append f (slotItems x) (items s))
 
--- Two weights over one bag.
+-- One number.
 
 -- a number counts once in its own place
 pub only-self : (v : ℕ) → only v v ≡ 1
 only-self v = rw (eq-eqb v v refl)
 
--- and at most once in any
-pub only-within : (v x : ℕ) → only v x ≤ 1
-only-within v x = go (eqb x v)
-  where
-    go : (b : Bool) → cond b 1 0 ≤ 1
-    go true = omega arith
-    go false = omega arith
-
--- a tree, where the second weight is nowhere less on the numbers held
-mono-tree : (f g : ℕ → ℕ) (t : Tree) → ((i : ℕ) → 1 ≤ weighTree (only i) t → f i ≤ g i) → weighTree f t ≤ weighTree g t
-unfolding weighTree
-mono-tree f g null h = omega arith
-mono-tree f g (node a l r) h =
-    let root = h a (omega (arith, only-self a)) in
-    omega (arith, mono-tree f g l (λ i k. h i (omega arith)), mono-tree f g r (λ i k. h i (omega arith)))
-
--- a slot
-mono-slot : (f g : ℕ → ℕ) (x : Slot) → ((i : ℕ) → 1 ≤ weighSlot (only i) x → f i ≤ g i) → weighSlot f x ≤ weighSlot g x
-unfolding weighSlot
-mono-slot f g gap h = omega arith
-mono-slot f g (tip a t) h =
-    let root = h a (omega (arith, only-self a)) in
-    omega (arith, mono-tree f g t (λ i k. h i (omega arith)))
-
--- a bag weighs no less by a weight that is nowhere less on the numbers held
-pub weigh-mono : (f g : ℕ → ℕ) (s : Bag) → ((i : ℕ) → 1 ≤ count i s → f i ≤ g i) → weigh f s ≤ weigh g s
-unfolding weigh
-weigh-mono f g [] h = omega arith
-weigh-mono f g (x ∷ s) h = omega (arith, mono-slot f g x (λ i k. h i (omega arith)), weigh-mono f g s (λ i k. h i (omega arith)))
-
--- no number is held more often than numbers are held
-pub count-within : (v : ℕ) (s : Bag) → count v s ≤ size s
-count-within v s = weigh-mono (only v) one s (λ i k. only-within v i)
-
 -- Empty or not.
 
 -- a bag is empty where its size is 0
 pub empty-size : (s : Bag) → isEmpty s ≡ eqb (size s) 0
-unfolding isEmpty weigh weighSlot
+unfolding isEmpty weigh weighSlot sumOf
 empty-size [] = refl
 empty-size (gap ∷ s) = rw (zero-add (size s)) (empty-size s)
 empty-size (tip a t ∷ s) = sym (ne-eqb (1 + weighTree one t + weigh one s) 0 (λ q. omega arith))
 
 -- an empty bag weighs nothing
 pub empty-weighs : (f : ℕ → ℕ) (s : Bag) → isEmpty s ≡ true → weigh f s ≡ 0
-unfolding isEmpty weigh weighSlot
+unfolding isEmpty weigh weighSlot sumOf
 empty-weighs f [] e = refl
 empty-weighs f (gap ∷ s) e = omega (arith, empty-weighs f s e)
 empty-weighs f (tip a t ∷ s) e = absurd (true≢false (sym e))
@@ -211,8 +174,8 @@ pub sized-filled : (s : Bag) → 1 ≤ size s → isEmpty s ≡ false
 sized-filled s h = empty-size s ∙ ne-eqb (size s) 0 (λ q. omega arith)
 
 -- the number that is taken is held
-pub taken-held : (s : Bag) → isEmpty s ≡ false → 1 ≤ count (takenNumber s) s
-unfolding isEmpty takenNumber weigh weighSlot
+pub taken-held : (s : Bag) → isEmpty s ≡ false → 1 ≤ copies (takenNumber s) s
+unfolding isEmpty takenNumber weigh weighSlot sumOf
 taken-held [] e = absurd (true≢false e)
 taken-held (gap ∷ s) e = omega (arith, taken-held s e)
 taken-held (tip a t ∷ s) e = omega (arith, only-self a)

@@ -4,7 +4,7 @@ use Prim.Native.Nat.{ℕ, zero, suc}
 use mathlib.Core.Bool.{Bool, true, false, not, _&&_}
 use mathlib.Core.List.{List, [], _∷_, _++_, map}
 use lib.ListN.{replicate}
-use Rattle.pennant.specs.Pennant.{null, Slot, gap, tip, pennantUnion, pennantKept, pennantHalf}
+use Rattle.pennant.specs.Pennant.{null, Slot, gap, tip, pennantUnion, pennantFirst, pennantSecond}
 
 -- "a backbone of 16 slots"
 abbrev pub slotCount : ℕ
@@ -68,17 +68,17 @@ bagUnion s t = addFrom gap s t
 -- BAG-SPLIT(S1), what S1 is afterwards: "y = S1[0] .. S1[k-1] = S1[k], S1[k] = NULL .. if y ≠ NULL: BAG-INSERT(S1, y)"
 unfoldable pub splitFirst : Bag → Bag
 splitFirst [] = []
-splitFirst (y ∷ s) = insertFilled y (map pennantKept s ++ gap ∷ [])
+splitFirst (y ∷ s) = insertFilled y (map pennantFirst s ++ gap ∷ [])
 
 -- BAG-SPLIT(S1), what it returns: "S2[k-1] = PENNANT-SPLIT(S1[k])"
 unfoldable pub splitSecond : Bag → Bag
 splitSecond [] = []
-splitSecond (y ∷ s) = map pennantHalf s ++ gap ∷ []
+splitSecond (y ∷ s) = map pennantSecond s ++ gap ∷ []
 
 -- document 01: "split k times, always keeping the root; the split-off halves fill slots k - 1 down to 0", before the slots from k on
 unfoldable pub spread : ℕ → Slot → Bag → Bag
 spread zero x s = s
-spread (suc k) x s = spread k (pennantKept x) (pennantHalf x ∷ s)
+spread (suc k) x s = spread k (pennantFirst x) (pennantSecond x ∷ s)
 
 -- document 01: "in the lowest filled slot", of the slots from k on, those before being empty
 unfoldable pub takeFrom : ℕ → Bag → Bag

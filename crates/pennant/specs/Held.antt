@@ -3,6 +3,7 @@ use Prim.Native.Nat.{ℕ, zero, suc, _+_}
 use mathlib.Core.Bool.{cond}
 use mathlib.Core.List.{List, [], _∷_, _++_, map}
 use lib.Dec.{eqb}
+use Rattle.lists.specs.Lists.{sumOf}
 use Rattle.pennant.specs.Pennant.{Tree, null, node, Slot, gap, tip}
 use Rattle.pennant.specs.Bag.{Bag}
 
@@ -33,8 +34,7 @@ weighSlot f (tip a t) = f a + weighTree f t
 
 -- the sum of f over the numbers held, each as often as it is held
 unfoldable pub weigh : (ℕ → ℕ) → Bag → ℕ
-weigh f [] = 0
-weigh f (x ∷ s) = weighSlot f x + weigh f s
+weigh f s = sumOf (weighSlot f) s
 
 -- weight 1 for every number: how many
 abbrev pub one : ℕ → ℕ
@@ -49,8 +49,8 @@ abbrev pub size : Bag → ℕ
 size s = weigh one s
 
 -- how often v is held
-abbrev pub count : ℕ → Bag → ℕ
-count v s = weigh (only v) s
+abbrev pub copies : ℕ → Bag → ℕ
+copies v s = weigh (only v) s
 
 -- a complete tree of 2^k - 1 numbers
 abbrev pub Complete : ℕ → Tree → Type 0
@@ -64,7 +64,7 @@ abbrev pub Pennant : ℕ → Slot → Type 0
 Pennant k gap = Unit {0}
 Pennant k (tip a t) = Complete k t
 
--- slots from slot k on
+-- slots of which the first is slot k, each empty or with a pennant of its size
 abbrev pub ShapedFrom : ℕ → Bag → Type 0
 ShapedFrom k [] = Unit {0}
 ShapedFrom k (x ∷ s) = Pennant k x × ShapedFrom (suc k) s
@@ -83,6 +83,6 @@ unfoldable pub mapSlot : (ℕ → ℕ) → Slot → Slot
 mapSlot f gap = gap
 mapSlot f (tip a t) = tip (f a) (mapTree f t)
 
--- a bag with the same: the same trees
+-- a bag with the same: the trees keep their shape
 unfoldable pub mapBag : (ℕ → ℕ) → Bag → Bag
 mapBag f s = map (mapSlot f) s

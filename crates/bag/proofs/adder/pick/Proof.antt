@@ -3,7 +3,7 @@ use borrow.Author.Needs.{needs}
 use native.Mathlib.Omega.{arith}
 use mathlib.Core.Path.{ap}
 use Prim.Native.Nat.{ℕ}
-use Rattle.bag.specs.Adder.{term}
+use Rattle.bag.specs.Table.{term}
 use Rattle.bag.proofs.AddFacts.{entry-within}
 use Rattle.bag.proofs.adder.pick.Statement.{statement}
 use Rattle.bag.proofs.adder.pick.Tie as tie

@@ -23,11 +23,11 @@ mul-loop c = search needs
 array-read-loop : tie.Need-array-read-loop Inv-loop μ-loop
 array-read-loop c = search needs
 
-mul-whole : tie.Need-mul-whole Inv-loop μ-loop
-mul-whole c = search needs
+mul-first : tie.Need-mul-first Inv-loop μ-loop
+mul-first c = search needs
 
-array-read-whole : tie.Need-array-read-whole Inv-loop μ-loop
-array-read-whole c = search needs
+array-read-first : tie.Need-array-read-first Inv-loop μ-loop
+array-read-first c = search needs
 
 link-requires : tie.Need-link-requires Inv-loop μ-loop
 link-requires c κs =
@@ -93,8 +93,8 @@ place-spec =
     loop-holds
     mul-loop
     array-read-loop
-    mul-whole
-    array-read-whole
+    mul-first
+    array-read-first
     link-requires
     mul-slots
     array-write-slots

@@ -4,13 +4,13 @@ use mathlib.Core.List.{List, [], _∷_}
 use lib.ListN.{getD}
 
 -- 1 for a pennant that is there, 0 for one that is empty
-unfoldable pub bit : ℕ → ℕ
-bit zero = 0
-bit (suc x) = 1
+unfoldable pub present : ℕ → ℕ
+present zero = 0
+present (suc x) = 1
 
 -- the row of the pennants with the roots x, y and z
 unfoldable pub rowOf : ℕ → ℕ → ℕ → ℕ
-rowOf x y z = bit x + 2 * bit y + 4 * bit z
+rowOf x y z = present x + 2 * present y + 4 * present z
 
 -- what an entry of the table stands for: 0 for none, 1 for x, 2 for y, 3 for z
 abbrev pub term : ℕ → ℕ → ℕ → ℕ → ℕ
