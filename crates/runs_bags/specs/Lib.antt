@@ -1,0 +1,2 @@
+-- What the contracts of the program `runs_bags` cite.
+pub mod Family
