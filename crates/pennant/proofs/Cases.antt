@@ -1,15 +1,15 @@
 -- The definitions computed: which root a union keeps, the eight rows of the full adder, a bag of 4 filled and taken from, bags of 5 and
--- 6 joined, and a bag of 23 split (case J).
+-- 6 joined, a bag of 23 split (case J), and the order in which numbers come out.
 use mathlib.Core.Path.{_≡_, refl}
 use mathlib.Core.Bool.{Bool, true, false, not}
 use mathlib.Core.List.{List, [], _∷_, map}
-use Prim.Native.Nat.{ℕ, zero, suc}
+use Prim.Native.Nat.{ℕ, zero, suc, _+_}
 use lib.ListN.{replicate}
 use Rattle.lists.specs.Lists.{sumOf}
 use Rattle.pennant.specs.Pennant.{null, node, Slot, gap, tip, pennantUnion, pennantFirst, pennantSecond}
 use Rattle.pennant.specs.Bag.{Bag, emptyBag, insertPennant, bagInsert, insertFilled, adderSum, adderCarry, addFrom, bagUnion, splitFirst}
 use Rattle.pennant.specs.Bag.{splitSecond, spread, takeFrom, takeRest, takenNumber, isGap}
-use Rattle.pennant.specs.Held.{treeItems, slotItems, items, weighTree, weighSlot, weigh, size, Shaped}
+use Rattle.pennant.specs.Held.{treeItems, slotItems, items, weighTree, weighSlot, weigh, size, Shaped, mapTree, mapSlot, mapBag}
 
 -- a pennant of size 1
 abbrev pub lone : ℕ → Slot
@@ -104,3 +104,33 @@ case-first = refl
 pub case-second : size (splitSecond (upTo 23)) ≡ 11
 unfolding upTo emptyBag bagInsert insertPennant pennantUnion splitSecond pennantSecond weigh weighSlot weighTree sumOf
 case-second = refl
+
+-- the first n numbers that come out
+unfoldable pub drained : ℕ → Bag → List ℕ
+drained zero s = []
+drained (suc n) s = takenNumber s ∷ drained n (takeRest s)
+
+-- the bag after a + 1, .., a + n are inserted
+unfoldable pub after : ℕ → ℕ → Bag
+after a n = mapBag (λ x. a + x) (upTo n)
+
+-- the order in which numbers come out of a bag, of unions in which every row of the adder is met, and of the two bags of a split: it tells
+-- which root is where
+pub case-order : drained 7 (upTo 7)
+    ∷ drained 6 (bagUnion (upTo 3) (after 3 3))
+    ∷ drained 4 (bagUnion (upTo 3) (after 3 1))
+    ∷ drained 4 (bagUnion (upTo 1) (after 1 3))
+    ∷ drained 11 (bagUnion (upTo 5) (after 5 6))
+    ∷ drained 6 (splitFirst (upTo 11))
+    ∷ drained 5 (splitSecond (upTo 11))
+    ∷ []
+    ≡ (7 ∷ 5 ∷ 6 ∷ 1 ∷ 2 ∷ 3 ∷ 4 ∷ [])
+    ∷ (1 ∷ 2 ∷ 4 ∷ 5 ∷ 3 ∷ 6 ∷ [])
+    ∷ (1 ∷ 2 ∷ 3 ∷ 4 ∷ [])
+    ∷ (2 ∷ 3 ∷ 1 ∷ 4 ∷ [])
+    ∷ (5 ∷ 10 ∷ 11 ∷ 1 ∷ 2 ∷ 3 ∷ 4 ∷ 6 ∷ 7 ∷ 8 ∷ 9 ∷ [])
+    ∷ (9 ∷ 11 ∷ 1 ∷ 2 ∷ 3 ∷ 4 ∷ [])
+    ∷ (10 ∷ 5 ∷ 6 ∷ 7 ∷ 8 ∷ [])
+    ∷ []
+unfolding drained after mapBag mapSlot mapTree upTo emptyBag bagInsert insertPennant insertFilled pennantUnion pennantFirst pennantSecond bagUnion addFrom adderSum adderCarry splitFirst splitSecond takeRest takeFrom spread takenNumber
+case-order = refl

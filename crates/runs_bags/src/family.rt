@@ -4,7 +4,7 @@ ghost use Prim.Native.Nat.{_<_, _≤_};
 ghost use mathlib.Core.Path.{_≡_};
 ghost use lib.ListN.{length};
 ghost use Rattle.bag.specs.Promises.{Pooled};
-ghost use Rattle.runs_bags.specs.Family.{slotsOf};
+ghost use Rattle.runs_bags.specs.Family.{Room, slotsOf};
 use crate::counts::raise;
 use bag::Bag;
 
@@ -135,6 +135,25 @@ pub fn fill(
         k += 1;
     }
     filled
+}
+
+// A new pool: `first` numbers from `from` on in bag 0, and the `second` numbers after them in bag 1.
+pub fn two_filled(
+    nodes: usize,
+    from: u16,
+    first: u16,
+    second: u16,
+    left: &mut [u16],
+    right: &mut [u16],
+    number: &mut [u16],
+) -> [Bag; 4]
+    requires { ⌜ Room nodes (now left) (now right) (now number) ⌝ }
+    ensures { λ r. ⌜ Pooled (now (left .exit)) (now (right .exit)) (slotsOf r) ⌝ }
+{
+    let none = start(left, right, nodes);
+    let one = fill(none, 0, from, first, left, right, number);
+    let next = std::num::wrapping_add_u16(from, first);
+    fill(one, 1, next, second, left, right, number)
 }
 
 // Takes `count` numbers from bag i, and counts each.

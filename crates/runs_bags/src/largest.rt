@@ -60,16 +60,6 @@ fn full_bag(left: &mut [u16], right: &mut [u16], number: &mut [u16]) -> [Bag; 4]
     family::fill(none, 0, 0, MOST, left, right, number)
 }
 
-// A new pool with one half of the numbers in bag 0 and the other in bag 1.
-fn half_bags(left: &mut [u16], right: &mut [u16], number: &mut [u16]) -> [Bag; 4]
-    requires { ⌜ Room 32768 (now left) (now right) (now number) ⌝ }
-    ensures { λ r. ⌜ Pooled (now (left .exit)) (now (right .exit)) (slotsOf r) ⌝ }
-{
-    let none = family::start(left, right, 32768);
-    let one = family::fill(none, 0, 0, HALF, left, right, number);
-    family::fill(one, 1, HALF, HALF, left, right, number)
-}
-
 // All into one bag, which leaves no node free, and out again.
 fn one_bag(left: &mut [u16], right: &mut [u16], number: &mut [u16]) -> Tally
     requires { ⌜ Room 32768 (now left) (now right) (now number) ⌝ }
@@ -86,7 +76,7 @@ fn one_bag(left: &mut [u16], right: &mut [u16], number: &mut [u16]) -> Tally
 fn two_bags(left: &mut [u16], right: &mut [u16], number: &mut [u16]) -> Tally
     requires { ⌜ Room 32768 (now left) (now right) (now number) ⌝ }
 {
-    let two = half_bags(left, right, number);
+    let two = family::two_filled(32768, 0, HALF, HALF, left, right, number);
     let before = holds_all(two, 16384, 16384, left, right, number);
     let whole = family::unite(two, 0, 1, left, right);
     let united = holds_all(whole, 32768, 0, left, right, number);

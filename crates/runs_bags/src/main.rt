@@ -4,6 +4,7 @@ mod census;
 mod counts;
 mod family;
 mod largest;
+mod order;
 mod random_operations;
 mod splits;
 mod swept;
@@ -12,6 +13,7 @@ mod walk;
 fn main() {
     random_operations::run();
     splits::run();
+    order::run();
     largest::run();
     swept::run();
 }

@@ -6,14 +6,14 @@ use borrow.Author.Needs.{needs}
 use Rattle.runs_bags.proofs.largest.two_bags.Statement.{statement}
 use Rattle.runs_bags.proofs.largest.two_bags.Tie as tie
 
-half-bags-requires : tie.Need-half-bags-requires
-half-bags-requires c κs = search needs
+two-filled-requires : tie.Need-two-filled-requires
+two-filled-requires c κs = search needs
 
 holds-all-requires : tie.Need-holds-all-requires
 holds-all-requires c κs = search needs
 
 unite-requires : tie.Need-unite-requires
-unite-requires c κs = search needs
+unite-requires c κs = (c .before .before .before .before .before .before .before .before .before .before .before .before .two-filled .ensures, (omega arith, (omega arith, λ (e : _≡_ {A = ℕ} 0 1). omega arith)))
 
 holds-all-requires-2 : tie.Need-holds-all-requires-2
 holds-all-requires-2 c κs = search needs
@@ -37,13 +37,13 @@ with-requires-3 : tie.Need-with-requires-3
 with-requires-3 c κs = search needs
 
 same-length : tie.Need-same-length
-same-length c = c .before .before .before .before .before .before .before .before .before .before .before .before .divide .kept .1 .1 .1 .0 ∙ c .before .before .before .before .before .before .before .before .before .before .before .before .before .before .before .before .before .before .before .before .before .before .before .unite .kept .1 .1 .1 .0 ∙ c .before .before .before .before .before .before .before .before .before .before .before .before .before .before .before .before .before .before .before .before .before .before .before .before .before .before .before .before .before .before .before .before .before .before .before .before .half-bags .kept .0
+same-length c = c .before .before .before .before .before .before .before .before .before .before .before .before .divide .kept .1 .1 .1 .0 ∙ c .before .before .before .before .before .before .before .before .before .before .before .before .before .before .before .before .before .before .before .before .before .before .before .unite .kept .1 .1 .1 .0 ∙ c .before .before .before .before .before .before .before .before .before .before .before .before .before .before .before .before .before .before .before .before .before .before .before .before .before .before .before .before .before .before .before .before .before .before .before .before .two-filled .kept .1 .1 .1 .1 .0
 
 same-length-2 : tie.Need-same-length-2
-same-length-2 c = c .before .before .before .before .before .before .before .before .before .before .before .before .divide .kept .1 .1 .1 .1 .0 ∙ c .before .before .before .before .before .before .before .before .before .before .before .before .before .before .before .before .before .before .before .before .before .before .before .unite .kept .1 .1 .1 .1 .0 ∙ c .before .before .before .before .before .before .before .before .before .before .before .before .before .before .before .before .before .before .before .before .before .before .before .before .before .before .before .before .before .before .before .before .before .before .before .before .half-bags .kept .1 .0
+same-length-2 c = c .before .before .before .before .before .before .before .before .before .before .before .before .divide .kept .1 .1 .1 .1 .0 ∙ c .before .before .before .before .before .before .before .before .before .before .before .before .before .before .before .before .before .before .before .before .before .before .before .unite .kept .1 .1 .1 .1 .0 ∙ c .before .before .before .before .before .before .before .before .before .before .before .before .before .before .before .before .before .before .before .before .before .before .before .before .before .before .before .before .before .before .before .before .before .before .before .before .two-filled .kept .1 .1 .1 .1 .1 .0
 
 same-length-3 : tie.Need-same-length-3
-same-length-3 c = c .before .before .before .before .before .before .before .before .before .before .before .before .before .before .before .before .before .before .before .before .before .before .before .before .before .before .before .before .before .before .before .before .before .before .before .before .half-bags .kept .1 .1 .0
+same-length-3 c = c .before .before .before .before .before .before .before .before .before .before .before .before .before .before .before .before .before .before .before .before .before .before .before .before .before .before .before .before .before .before .before .before .before .before .before .before .two-filled .kept .1 .1 .1 .1 .1 .1 .0
 
 returns : tie.Need-returns
 returns c = search needs
@@ -52,7 +52,7 @@ pub two-bags-spec : {M : Type 1} → statement M
 two-bags-spec =
     tie.close
     (tie.spec
-    half-bags-requires
+    two-filled-requires
     holds-all-requires
     unite-requires
     holds-all-requires-2
