@@ -9,6 +9,18 @@ maxVertices = 4096
 abbrev pub maxEdges : ℕ
 maxEdges = 32768
 
+-- "workers P 1 to 8"
+abbrev pub maxWorkers : ℕ
+maxWorkers = 8
+
+-- "sheet 0 to 5,000,000 bytes"
+abbrev pub maxEvents : ℕ
+maxEvents = 5000000
+
+-- "65,535 means unset, in distances and parents only"
+abbrev pub unset : ℕ
+unset = 65535
+
 -- "0 is success"
 abbrev pub success : ℕ
 success = 0
@@ -37,6 +49,18 @@ repeated = 5
 abbrev pub unreached : ℕ
 unreached = 6
 
+-- "7: source of n or more"
+abbrev pub badSource : ℕ
+badSource = 7
+
+-- "8: P outside 1 to 8"
+abbrev pub badWorkers : ℕ
+badWorkers = 8
+
+-- "9: sheet over length, or a byte not of the forms above, or w or v of P or more"
+abbrev pub badSchedule : ℕ
+badSchedule = 9
+
 -- "11: rows malformed"
 abbrev pub badRows : ℕ
 badRows = 11
@@ -44,3 +68,7 @@ badRows = 11
 -- "20: a lent list is shorter than its need"
 abbrev pub shortList : ℕ
 shortList = 20
+
+-- "21: the sheet is spent and the search isn't finished"
+abbrev pub unfinished : ℕ
+unfinished = 21

@@ -6,6 +6,10 @@ pub const MAX_VERTICES: usize = 4096;
 
 pub const MAX_EDGES: usize = 32768;
 
+pub const MAX_WORKERS: usize = 8;
+
+pub const MAX_EVENTS: usize = 5000000;
+
 // "Turned down by the input"; 0 is success.
 pub const SUCCESS: usize = 0;
 
@@ -20,6 +24,10 @@ pub const BAD_INDEX: usize = 4;
 pub const REPEATED: usize = 5;
 
 pub const UNREACHED: usize = 6;
+
+pub const BAD_WORKERS: usize = 8;
+
+pub const BAD_SCHEDULE: usize = 9;
 
 pub const BAD_ROWS: usize = 11;
 

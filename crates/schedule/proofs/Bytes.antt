@@ -1,0 +1,107 @@
+-- Facts about event bytes that the crates above cite: which event a byte is, and what a byte that is not stray tells of its event.
+use mathlib.Core.Path.{_≡_, refl, ap, subst, _∙_}
+use mathlib.Core.Bool.{Bool, true, false, cond, not, _&&_, and-eq-true-iff}
+use mathlib.Core.List.{List, _∷_}
+use Prim.Native.Nat.{ℕ, _+_, _*_, _/_, _%_, _<_}
+use native.Mathlib.Omega.{arith}
+use lib.Dec.{ltb, eqb}
+use borrow.Author.Tests.{ltb-true, eqb-false, not-false}
+use Rattle.lists.proofs.Or.{or-none}
+use Rattle.schedule.specs.declared.Event.{Event}
+use Rattle.schedule.specs.declared.Event.the-variants.{Work, Split, Unite, Close, Malformed}
+use Rattle.schedule.specs.Events.{formOf, eventOf, within}
+use Rattle.schedule.specs.Check.{anyStray}
+
+-- Which event a byte is.
+
+-- "An event byte is 64 × kind + 8 × w + v.": the event of that sum is the event of its three parts
+pub event-form : (kind w v : ℕ) → kind < 4 → w < 8 → v < 8 → eventOf (64 * kind + 8 * w + v) ≡ formOf kind w v
+unfolding eventOf
+event-form kind w v hk hw hv =
+    let byte = 64 * kind + 8 * w + v in
+    let first : byte / 64 ≡ kind = omega arith in
+    let second : byte / 8 % 8 ≡ w = omega arith in
+    let third : byte % 8 ≡ v = omega arith in
+    rw (first, second, third)
+
+-- the byte 8 × w: worker w moves once
+pub event-work : (w : ℕ) → w < 8 → eventOf (8 * w) ≡ Work w
+unfolding formOf
+event-work w h =
+    let sum : 8 * w ≡ 64 * 0 + 8 * w + 0 = omega arith in
+    ap eventOf sum ∙ event-form 0 w 0 (omega arith) h (omega arith)
+
+-- the byte 64 × 3: close
+pub event-close : eventOf 192 ≡ Close
+unfolding eventOf formOf
+event-close = refl
+
+-- Two workers of one event.
+
+-- the two workers of a split or of a union are different
+Apart : Event → Type 0
+Apart (Work w) = Unit {0}
+Apart (Split w v) = w ≡ v → ⊥
+Apart (Unite w v) = w ≡ v → ⊥
+Apart Close = Unit {0}
+Apart Malformed = Unit {0}
+
+-- of two events whose workers are different, the one that a test picks
+picked : (test : Bool) (x y : Event) → Apart x → Apart y → Apart (cond test x y)
+picked true x y p q = p
+picked false x y p q = q
+
+-- so it is in the event of every three parts
+form-apart : (kind w v : ℕ) → Apart (formOf kind w v)
+unfolding formOf Apart
+form-apart kind w v =
+    picked (eqb kind 0) _ _ (picked (eqb v 0) _ _ tt tt)
+    (picked (eqb kind 3) _ _ (picked (eqb (w + v) 0) _ _ tt tt) (unlike (eqb w v) refl))
+  where
+    unlike : (same : Bool) → eqb w v ≡ same → Apart (cond same Malformed (cond (eqb kind 1) (Split w v) (Unite w v)))
+    unlike true e = tt
+    unlike false e = picked (eqb kind 1) (Split w v) (Unite w v) (eqb-false w v e) (eqb-false w v e)
+
+-- and in the event of every byte
+event-apart : (byte : ℕ) → Apart (eventOf byte)
+unfolding eventOf
+event-apart byte = form-apart (byte / 64) (byte / 8 % 8) (byte % 8)
+
+-- no worker takes from itself
+pub split-apart : (byte w v : ℕ) → eventOf byte ≡ Split w v → w ≡ v → ⊥
+unfolding Apart
+split-apart byte w v e = subst Apart e (event-apart byte)
+
+-- no worker gives to itself
+pub unite-apart : (byte w v : ℕ) → eventOf byte ≡ Unite w v → w ≡ v → ⊥
+unfolding Apart
+unite-apart byte w v e = subst Apart e (event-apart byte)
+
+-- Bytes that are not stray.
+
+-- no byte is stray: not the first, and none of the rest
+pub stray-none : (P byte : ℕ) (bytes : List ℕ) → anyStray P (byte ∷ bytes) ≡ false
+    → (within P (eventOf byte) ≡ true) × (anyStray P bytes ≡ false)
+unfolding anyStray
+stray-none P byte bytes e =
+    let none = or-none (not (within P (eventOf byte))) (anyStray P bytes) e in
+    (not-false (within P (eventOf byte)) (none .0), none .1)
+
+-- two workers that are both there
+both-there : (P w v : ℕ) → (ltb w P && ltb v P) ≡ true → (w < P) × (v < P)
+both-there P w v e = let there = and-eq-true-iff (ltb w P) (ltb v P) .0 e in (ltb-true w P (there .0), ltb-true v P (there .1))
+
+-- the worker that moves is there
+pub within-work : (P w : ℕ) → within P (Work w) ≡ true → w < P
+unfolding within
+within-work P w e = ltb-true w P e
+
+-- the taker and the giver of a split are there
+pub within-split : (P w v : ℕ) → within P (Split w v) ≡ true → (w < P) × (v < P)
+unfolding within
+within-split P w v e = both-there P w v e
+
+-- the giver and the taker of a union are there
+pub within-unite : (P w v : ℕ) → within P (Unite w v) ≡ true → (w < P) × (v < P)
+unfolding within
+within-unite P w v e = both-there P w v e

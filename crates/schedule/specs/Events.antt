@@ -1,0 +1,27 @@
+-- Events, and the byte of each: "An event byte is 64 × kind + 8 × w + v."
+use Prim.Native.Nat.{ℕ, _+_, _/_, _%_}
+use mathlib.Core.Bool.{Bool, true, false, cond, _&&_}
+use lib.Dec.{eqb, ltb}
+use Rattle.schedule.specs.declared.Event.{Event}
+use Rattle.schedule.specs.declared.Event.the-variants.{Work, Split, Unite, Close, Malformed}
+
+-- "Kind 0, v = 0: worker w moves once." "Kind 3, w = v = 0: close." "Kind 1, w and v different: w .. gets the second bag of a split of v's".
+-- "Kind 2, w and v different: w's output bag is united into v's".
+unfoldable pub formOf : ℕ → ℕ → ℕ → Event
+formOf kind w v =
+    cond (eqb kind 0) (cond (eqb v 0) (Work w) Malformed)
+    (cond (eqb kind 3) (cond (eqb (w + v) 0) Close Malformed)
+    (cond (eqb w v) Malformed
+    (cond (eqb kind 1) (Split w v) (Unite w v))))
+
+-- "64 × kind + 8 × w + v"
+unfoldable pub eventOf : ℕ → Event
+eventOf byte = formOf (byte / 64) (byte / 8 % 8) (byte % 8)
+
+-- whether the event is one of the four kinds, and its workers are below P
+unfoldable pub within : ℕ → Event → Bool
+within P (Work w) = ltb w P
+within P (Split w v) = ltb w P && ltb v P
+within P (Unite w v) = ltb w P && ltb v P
+within P Close = true
+within P Malformed = false
