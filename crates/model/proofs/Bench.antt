@@ -1,0 +1,25 @@
+-- The bench table holds: every case's outcome is the one expected, computed by the very definitions that the contracts cite.
+use mathlib.Core.Path.{_≡_, refl}
+use mathlib.Core.List.{List, map, flatten}
+use Rattle.numbers.specs.Refusals.{first}
+use Rattle.lists.specs.Lists.{overlay, chainFrom, numbersFrom, sumsFrom, elem, repeats, lacks, reaches, sumOf}
+use Rattle.graph.specs.Graph.{edges, offsetsOf, targetsOf}
+use Rattle.graph.specs.File.{word, wordsAt, vertexCount, edgeCount, headIndex, next, heads, recordTargets, recordNexts, chain, chains, reached, graphOf}
+use Rattle.graph.specs.File.{target as recordTarget}
+use Rattle.graph.specs.Read.{outsideSizes, headerRefusals, scanRefusals, chainRefusals, rowsShort}
+use Rattle.graph.specs.Encode.{bytesOf}
+use Rattle.pennant.specs.Pennant.{pennantUnion, pennantFirst, pennantSecond}
+use Rattle.pennant.specs.Bag.{emptyBag, insertPennant, bagInsert, insertFilled, adderSum, adderCarry, addFrom, bagUnion, splitFirst, splitSecond, spread, takeFrom, takeRest, takenNumber, isEmpty, atLeastTwo}
+use Rattle.pennant.specs.Held.{weighTree, weighSlot, weigh}
+use Rattle.schedule.specs.Events.{formOf, eventOf, within}
+use Rattle.schedule.specs.Check.{anyStray, scheduleRefusals}
+use Rattle.model.specs.State.{openingLabels, openingState}
+use Rattle.model.specs.Table.{holdAt, look, mark, name, move, moved, splitInputs, uniteOutputs, isFree, allIdle, united, closed, act}
+use Rattle.model.specs.Play.{tally, step, playFrom, play}
+use Rattle.model.specs.Call.{lentShort, runOf, inputRefusals, searchRefusals, searchNumber, plays, answerBy, wordOf, sweepsMarks, lentAfter, outcomeOfSearch}
+use Rattle.model.specs.Bench.{Case, Expected, lentFor, answersOf, bagOf, outcomeOfCase, benchTable}
+
+-- each outcome is the expected one
+pub bench-cases : map (λ (c : Case × Expected). outcomeOfCase (c .0)) benchTable ≡ map (λ (c : Case × Expected). c .1) benchTable
+unfolding first overlay chainFrom numbersFrom sumsFrom elem repeats lacks reaches sumOf flatten edges offsetsOf targetsOf word wordsAt vertexCount edgeCount headIndex next heads recordTargets recordNexts chain chains reached graphOf recordTarget outsideSizes headerRefusals scanRefusals chainRefusals rowsShort bytesOf pennantUnion pennantFirst pennantSecond emptyBag insertPennant bagInsert insertFilled adderSum adderCarry addFrom bagUnion splitFirst splitSecond spread takeFrom takeRest takenNumber isEmpty atLeastTwo weighTree weighSlot weigh formOf eventOf within anyStray scheduleRefusals openingLabels openingState holdAt look mark name move moved splitInputs uniteOutputs isFree allIdle united closed act tally step playFrom play lentShort runOf inputRefusals searchRefusals searchNumber plays answerBy wordOf sweepsMarks lentAfter outcomeOfSearch lentFor answersOf bagOf outcomeOfCase benchTable
+bench-cases = refl

@@ -1,0 +1,99 @@
+-- The checker's condition with no path in it is the one with paths: what is certified is right, what is right is certified, and right distances
+-- are the only ones.
+use mathlib.Core.Path.{_≡_, refl, sym, ap, _∙_}
+use mathlib.Core.List.{List, [], _∷_}
+use mathlib.Core.Option.{Option, none, some, Option·none-ne-some, mem-unique}
+use Prim.Native.Nat.{ℕ, zero, suc, _≤_, _<_}
+use native.Mathlib.Decide.{ℕ-discrete}
+use native.Mathlib.Omega.{arith}
+use lib.ListN.{length, getD}
+use lib.Seq.{ext-getD}
+use Rattle.graph.specs.Graph.{Graph}
+use Rattle.model.specs.Paths.{Walk, stay, onward, Labels, distanceOf, Nearer, Right, Certified}
+use Rattle.model.proofs.Sound.{Ground}
+use Rattle.model.proofs.Walks.{walk-below, distance-unique}
+
+-- a label that is set stands within the list
+pub label-below : (l : List (Option ℕ)) (v k : ℕ) → getD l v none ≡ some k → v < length l
+label-below [] v k e = absurd (Option·none-ne-some k e)
+label-below (x ∷ l) zero k e = omega arith
+label-below (x ∷ l) (suc v) k e = omega (arith, label-below l v k e)
+
+-- v is set, to no more than k
+record Within (x : Labels) (v k : ℕ) : Type 0 where
+  value : ℕ
+  is : distanceOf x v ≡ some value
+  most : value ≤ k
+
+module _ {g : Graph} {source : ℕ} (ground : Ground g source) where
+  module _ {x : Labels} (r : Right g source x) where
+    -- right labels: the end of every path is set, to no more than its links
+    right-within : {v k : ℕ} → Walk g source v k → Within x v k
+    right-within {v} {k} w = go (distanceOf x v) refl
+      where
+        go : (l : Option ℕ) → distanceOf x v ≡ l → Within x v k
+        go none e = absurd (r .unreached v k (walk-below ground w) e w)
+        go (some j) e = record { value = j; is = e; most = r .shortest v j (walk-below ground w) e .least k w }
+
+    -- what is right is certified
+    pub right-certified : Certified g source x
+    right-certified = record {
+      distances-all = r .distances-all;
+      parents-all = r .parents-all;
+      source = let s = right-within stay in s .is ∙ ap {B = Option ℕ} some (omega (arith, s .most));
+      own-parent = r .own-parent;
+      onward = λ u d i h e there.
+          let t = right-within (onward (r .shortest u d h e .walk) (record { place = i; there = there; leads = refl })) in (t .value, t .is, t .most);
+      no-parent = r .no-parent;
+      parent = r .parent;
+    }
+
+  module _ {x : Labels} (c : Certified g source x) where
+    -- certified labels: the end of every path is set, to no more than its links
+    certified-within : {v k : ℕ} → Walk g source v k → Within x v k
+    certified-within stay = record { value = 0; is = c .source; most = omega arith }
+    certified-within (onward {u = u} w j) =
+        let a = certified-within w in
+        let b = c .onward u (a .value) (j .place) (walk-below ground w) (a .is) (j .there) in
+        record { value = b .0; is = rw (j .leads) at (b .1); most = omega (arith, a .most, b .2) }
+
+    -- .. a vertex that is set and isn't the source has a nearer one
+    certified-nearer : (v d : ℕ) → (v ≡ source → ⊥) → distanceOf x v ≡ some d → (p : ℕ) × Nearer g x p v
+    certified-nearer v d apart e = let n = c .parent v (rw (c .distances-all) at (label-below (x .distances) v d e)) apart (rw e) in (n .0, n .2)
+
+    -- .. and a vertex set to d is the end of a path of d links: that of the nearer one and one link more
+    certified-walk : (d v : ℕ) → Dec (v ≡ source) → distanceOf x v ≡ some d → Walk g source v d
+    certified-walk zero v (yes same) e = rw same stay
+    certified-walk zero v (no apart) e = absurd (omega (arith, mem-unique (certified-nearer v 0 apart e .1 .there) e))
+    certified-walk (suc d) v (yes same) e = absurd (omega (arith, mem-unique (c .source) (rw same at e)))
+    certified-walk (suc d) v (no apart) e =
+        let n = certified-nearer v (suc d) apart e in
+        let same : n .1 .depth ≡ d = omega (arith, mem-unique (n .1 .there) e) in
+        onward (certified-walk d (n .0) (ℕ-discrete (n .0) source) (n .1 .here ∙ ap {B = Option ℕ} some same)) (n .1 .link)
+
+    -- what is certified is right
+    pub certified-right : Right g source x
+    certified-right = record {
+      distances-all = c .distances-all;
+      parents-all = c .parents-all;
+      shortest = λ v d h e. record {
+        walk = certified-walk d v (ℕ-discrete v source) e;
+        least = λ k w. let a = certified-within w in omega (arith, a .most, mem-unique e (a .is));
+      };
+      unreached = λ v k h e w. let a = certified-within w in Option·none-ne-some (a .value) (sym e ∙ a .is);
+      own-parent = c .own-parent;
+      no-parent = c .no-parent;
+      parent = c .parent;
+    }
+
+  -- right distances are the only ones
+  pub right-unique : {x y : Labels} → Right g source x → Right g source y → x .distances ≡ y .distances
+  right-unique {x} {y} a b =
+      ext-getD none (x .distances) (y .distances) (a .distances-all ∙ sym (b .distances-all))
+      (λ v h. go v (rw (a .distances-all) at h) (distanceOf x v) (distanceOf y v) refl refl)
+    where
+      go : (v : ℕ) → v < length g → (l m : Option ℕ) → distanceOf x v ≡ l → distanceOf y v ≡ m → l ≡ m
+      go v h none none e f = refl
+      go v h none (some k) e f = absurd (a .unreached v k h e (b .shortest v k h f .walk))
+      go v h (some k) none e f = absurd (b .unreached v k h f (a .shortest v k h e .walk))
+      go v h (some k) (some j) e f = ap {B = Option ℕ} some (distance-unique (a .shortest v k h e) (b .shortest v j h f))

@@ -1,0 +1,244 @@
+-- A close, where all workers are free and all input bags empty: the united bag holds the next layer. If it isn't empty, the state that the close
+-- leaves is sound and opens that layer; if it is, the labels are certified.
+use mathlib.Core.Path.{_≡_, refl, sym, _∙_}
+use mathlib.Core.Bool.{Bool, true, false, _&&_, and-eq-true-iff, true≢false}
+use mathlib.Core.List.{List, [], _∷_, map, foldl}
+use mathlib.Core.Option.{Option, none, some}
+use Prim.Native.Nat.{ℕ, zero, suc, _+_, _≤_, _<_}
+use native.Mathlib.Omega.{arith}
+use lib.Dec.{eqb, leb, ltb}
+use lib.ListN.{length, getD, set, length-map, List·getD-map}
+use borrow.Author.Tests.{ltb-true, ltb-false, leb-true, leb-false, eqb-true, eqb-false}
+use Rattle.lists.specs.Lists.{sumOf}
+use Rattle.graph.specs.Graph.{Graph, edges}
+use Rattle.pennant.specs.Bag.{Bag, emptyBag, bagUnion, takenNumber, isEmpty}
+use Rattle.pennant.specs.Held.{weigh, only, copies, Shaped}
+use Rattle.pennant.proofs.Laws.{weigh-union, empty-weighs, taken-held, shaped-empty, shaped-union}
+use Rattle.model.specs.Paths.{target, Walk, stay, onward, Distance, Labels, distanceOf, parentOf, isSet, Certified}
+use Rattle.model.specs.State.{Phase, free, holding, inHand, marked, named, Worker, worker, idleWorker, State, workerAt}
+use Rattle.model.specs.Table.{isFree, allIdle, united, handedIn, closed}
+use Rattle.model.specs.Demand.{LayerOpen}
+use Rattle.model.proofs.Counts.{setOne, outputs}
+use Rattle.model.proofs.Sound.{Ground, LabelsSound, CrewSound, Sound}
+use Rattle.model.proofs.Walks.{walk-last, distance-unique, distance-source, set-value}
+use Rattle.model.proofs.Fresh.{empty-bag, Idle, spare-idle, no-copies, no-hands, no-namings, no-ats}
+use Rattle.model.proofs.Fresh.{LayerBag, SpareCrew, fresh-sound, fresh-opens}
+
+-- Bags united one after another.
+
+module _ {A : Type 0} (bagOf : A → Bag) where
+  -- they weigh what all of them weigh
+  pub weigh-unions : (f : ℕ → ℕ) (b : Bag) (l : List A)
+      → weigh f (foldl bagUnion b (map bagOf l)) ≡ weigh f b + sumOf (λ (x : A). weigh f (bagOf x)) l
+  unfolding sumOf
+  weigh-unions f b [] = omega arith
+  weigh-unions f b (x ∷ l) = omega (arith, weigh-unions f (bagUnion b (bagOf x)) l, weigh-union f b (bagOf x))
+
+  -- and keep the shape
+  pub shaped-unions : (d : A) (b : Bag) (l : List A) → Shaped b → ((i : ℕ) → Shaped (bagOf (getD l i d))) → Shaped (foldl bagUnion b (map bagOf l))
+  shaped-unions d b [] h each = h
+  shaped-unions d b (x ∷ l) h each = shaped-unions d (bagUnion b (bagOf x)) l (shaped-union b (bagOf x) h (each 0)) (λ i. each (suc i))
+
+-- Idle workers.
+
+-- a worker that is free
+free-phase : (p : Phase) → isFree p ≡ true → p ≡ free
+unfolding isFree
+free-phase free e = refl
+free-phase (holding u i) e = absurd (true≢false (sym e))
+free-phase (inHand u i t) e = absurd (true≢false (sym e))
+free-phase (marked u i t) e = absurd (true≢false (sym e))
+free-phase (named u i t) e = absurd (true≢false (sym e))
+
+-- the first worker is idle and so are the others
+idle-first : (x : Worker) (workers : List Worker) → allIdle (x ∷ workers) ≡ true → Idle x × (allIdle workers ≡ true)
+unfolding allIdle
+idle-first x workers e =
+    let both = and-eq-true-iff (isFree (x .phase) && isEmpty (x .input)) (allIdle workers) .0 e in
+    let first = and-eq-true-iff (isFree (x .phase)) (isEmpty (x .input)) .0 (both .0) in
+    (record { input-empty = first .1; phase-free = free-phase (x .phase) (first .0) }, both .1)
+
+-- every worker is idle, and past the last one
+pub idle-each : (workers : List Worker) → allIdle workers ≡ true → (w : ℕ) → Idle (workerAt workers w)
+idle-each [] e w = spare-idle .idle
+idle-each (x ∷ workers) e zero = idle-first x workers e .0
+idle-each (x ∷ workers) e (suc w) = idle-each workers (idle-first x workers e .1) w
+
+-- a label that counts as set is set
+one-set : (l : Option ℕ) → 1 ≤ setOne l → isSet l ≡ true
+one-set none h = absurd (omega arith)
+one-set (some k) h = refl
+
+-- The end of a layer: sound labels, and a sound crew that is idle.
+module _ {g : Graph} {source P d : ℕ} {x : Labels} {workers : List Worker}
+    (l : LabelsSound g source d x) (c : CrewSound g source P d x workers) (idle : (w : ℕ) → Idle (workerAt workers w)) where
+  -- all are free
+  all-free : (w : ℕ) → workerAt workers w .phase ≡ free
+  all-free w = idle w .phase-free
+
+  -- a vertex that is set has its distance for label
+  label-is : (v k : ℕ) → isSet (distanceOf x v) ≡ true → Distance g source v k → distanceOf x v ≡ some k
+  label-is v k e far =
+      let label = set-value (distanceOf x v) e in
+      rw (distance-unique (l .written v (label .value) (label .is)) far) at (label .is)
+
+  -- a path through a vertex that is set
+  through : (u k i : ℕ) → distanceOf x u ≡ some k → i < length (edges g u) → Walk g source (target g u i) (suc k)
+  through u k i e there = onward (l .written u k e .walk) (record { place = i; there = there; leads = refl })
+
+  -- every edge of a vertex up to this layer leads to a vertex that is set
+  target-set : (u k i : ℕ) → distanceOf x u ≡ some k → k ≤ d → i < length (edges g u) → isSet (distanceOf x (target g u i)) ≡ true
+  target-set u k i e h there = go (ltb k d) refl
+    where
+      go : (b : Bool) → ltb k d ≡ b → isSet (distanceOf x (target g u i)) ≡ true
+      go true q = l .near (target g u i) (suc k) (through u k i e there) (ltb-true k d q)
+      go false q =
+          let same : k ≡ d = omega (arith, ltb-false k d q) in
+          let looked = c .covered u i (rw same at (l .written u k e)) there in
+          let taken = no-copies (λ w. w .input) workers (λ w. idle w .input-empty) u in
+          one-set (distanceOf x (target g u i)) (omega (arith, no-ats workers all-free u i))
+
+  -- what d + 1 links reach is set
+  next-set : (v k : ℕ) → Walk g source v k → k ≤ suc d → isSet (distanceOf x v) ≡ true
+  next-set v k w h = go (leb k d) refl
+    where
+      go : (b : Bool) → leb k d ≡ b → isSet (distanceOf x v) ≡ true
+      go true q = l .near v k w (leb-true k d q)
+      go false q =
+          let last = walk-last w d (omega (arith, leb-false k d q)) in
+          let label = set-value (distanceOf x (last .before)) (l .near (last .before) d (last .walk) (omega arith)) in
+          let low = l .written (last .before) (label .value) (label .is) .least d (last .walk) in
+          rw (last .link .leads) at (target-set (last .before) (label .value) (last .link .place) (label .is) low (last .link .there))
+
+  -- every vertex of the next layer has its label
+  next-labelled : (v : ℕ) → Distance g source v (suc d) → distanceOf x v ≡ some (suc d)
+  next-labelled v far = label-is v (suc d) (next-set v (suc d) (far .walk) (omega arith)) far
+
+  -- every vertex that is set has its parent
+  parent-set : (v : ℕ) → isSet (distanceOf x v) ≡ true → 1 ≤ setOne (parentOf x v)
+  parent-set v e = omega (arith, c .parented v e, no-namings workers all-free v)
+
+  -- the united bag holds what the output bags hold
+  united-copies : (v : ℕ) → copies v (united workers) ≡ outputs v workers
+  unfolding united
+  united-copies v =
+      let before = workerAt workers 0 .input in
+      omega (arith, weigh-unions (λ (w : Worker). w .output) (only v) before workers, empty-weighs (only v) before (idle 0 .input-empty))
+
+  -- which is the vertices that are set for the next layer
+  united-next : (v : ℕ) → 1 ≤ copies v (united workers) → distanceOf x v ≡ some (suc d)
+  united-next v h = c .output-next v (omega (arith, united-copies v))
+
+  -- all of them
+  next-united : (v : ℕ) → distanceOf x v ≡ some (suc d) → 1 ≤ copies v (united workers)
+  next-united v e = omega (arith, united-copies v, c .stowed v e, no-hands workers all-free v)
+
+  -- so it holds the next layer
+  united-bag : LayerBag g source P (suc d) (united workers)
+  unfolding united
+  united-bag = record {
+    every = λ v far. next-united v (next-labelled v far);
+    no-other = λ v h. l .written v (suc d) (united-next v h);
+    at-most = λ v. omega (arith, united-copies v, c .few-outputs v);
+    shaped = shaped-unions (λ (w : Worker). w .output) idleWorker (workerAt workers 0 .input) workers
+        (c .each 0 .input-shaped) (λ w. c .each w .output-shaped);
+  }
+
+  -- workers whose output bags have been united are spare
+  handed-in : 1 ≤ P → SpareCrew P (map handedIn workers)
+  handed-in p = record {
+    some-worker = p;
+    crew = length-map workers handedIn ∙ c .crew;
+    each = λ w. rw (List·getD-map handedIn workers w idleWorker) (record {
+      idle = record { input-empty = idle w .input-empty; phase-free = idle w .phase-free };
+      output-empty = empty-bag;
+      input-shaped = c .each w .input-shaped;
+      output-shaped = shaped-empty;
+    });
+  }
+
+  -- labels of a layer with a vertex after it are sound for the next one
+  next-labels : (v : ℕ) → distanceOf x v ≡ some (suc d) → LabelsSound g source (suc d) x
+  next-labels v e = record {
+    distances-all = l .distances-all;
+    parents-all = l .parents-all;
+    written = l .written;
+    not-far = λ u k f. omega (arith, l .not-far u k f);
+    near = next-set;
+    room = omega (arith, l .more-room v e);
+    more-room = λ u f. absurd (omega (arith, l .not-far u (suc (suc d)) f));
+    own-parent = l .own-parent;
+    parent = l .parent;
+  }
+
+  -- the state that a close leaves, if it raises the layer
+  abbrev next : State
+  next = record { labels = x; workers = set (map handedIn workers) 0 (worker (united workers) emptyBag free); layer = suc d; finished = false }
+
+  -- is sound, if an output bag holds a vertex
+  next-sound : 1 ≤ P → isEmpty (united workers) ≡ false → Sound g source P next
+  next-sound p filled = let v = takenNumber (united workers) in record {
+    labels-sound = next-labels v (united-next v (taken-held (united workers) filled));
+    crew-sound = fresh-sound (handed-in p) united-bag (λ u e. omega (arith, l .not-far u (suc (suc d)) e)) parent-set;
+  }
+
+  -- and opens the next layer
+  next-opens : 1 ≤ P → LayerOpen g source P next
+  next-opens p = fresh-opens (handed-in p) united-bag x false
+
+  -- a vertex that has a parent is set
+  named-set : (v p : ℕ) → parentOf x v ≡ some p → isSet (distanceOf x v) ≡ true
+  named-set v p e = go (eqb v source) refl
+    where
+      go : (b : Bool) → eqb v source ≡ b → isSet (distanceOf x v) ≡ true
+      go true q = rw (eqb-true v source q) (l .near source 0 stay (omega arith))
+      go false q = rw (l .parent v p (eqb-false v source q) e .there)
+
+  -- if no output bag holds anything, no vertex is set for the next layer
+  last-layer : isEmpty (united workers) ≡ true → (v k : ℕ) → distanceOf x v ≡ some k → k ≤ d
+  last-layer empty v k e = go (leb k d) refl
+    where
+      go : (b : Bool) → leb k d ≡ b → k ≤ d
+      go true q = leb-true k d q
+      go false q =
+          let same : k ≡ suc d = omega (arith, leb-false k d q, l .not-far v k e) in
+          absurd (omega (arith, next-united v (rw same at e), empty-weighs (only v) (united workers) empty))
+
+  -- and the labels are certified
+  last-certified : isEmpty (united workers) ≡ true → Certified g source x
+  last-certified empty = record {
+    distances-all = l .distances-all;
+    parents-all = l .parents-all;
+    source = label-is source 0 (l .near source 0 stay (omega arith)) distance-source;
+    own-parent = l .own-parent;
+    onward = λ u k i below e there.
+        let label = set-value (distanceOf x (target g u i)) (target-set u k i e (last-layer empty u k e) there) in
+        (label .value, label .is, l .written (target g u i) (label .value) (label .is) .least (suc k) (through u k i e there));
+    no-parent = λ v below e. unnamed v e (parentOf x v) refl;
+    parent = λ v below apart e.
+        let name = set-value (parentOf x v) (one-set (parentOf x v) (parent-set v e)) in
+        (name .value, name .is, l .parent v (name .value) apart (name .is));
+  }
+    where
+      -- a vertex that is unset has no parent
+      unnamed : (v : ℕ) → distanceOf x v ≡ none → (p : Option ℕ) → parentOf x v ≡ p → p ≡ none
+      unnamed v e none f = refl
+      unnamed v e (some p) f = absurd (true≢false (sym (named-set v p f) ∙ rw e))
+
+module _ {g : Graph} {source : ℕ} (ground : Ground g source) where
+  -- a close that raises the layer leaves a sound state
+  pub close-sound : {P : ℕ} {s : State} → 1 ≤ P → Sound g source P s → allIdle (s .workers) ≡ true → isEmpty (united (s .workers)) ≡ false
+      → Sound g source P (closed s (united (s .workers)))
+  unfolding closed
+  close-sound {s = s} p h idle filled = rw filled (next-sound (h .labels-sound) (h .crew-sound) (idle-each (s .workers) idle) p filled)
+
+  -- and opens the next layer
+  pub close-opens : {P : ℕ} {s : State} → 1 ≤ P → Sound g source P s → allIdle (s .workers) ≡ true → isEmpty (united (s .workers)) ≡ false
+      → LayerOpen g source P (closed s (united (s .workers)))
+  unfolding closed
+  close-opens {s = s} p h idle filled = rw filled (next-opens (h .labels-sound) (h .crew-sound) (idle-each (s .workers) idle) p)
+
+  -- a close that finishes leaves labels that are certified
+  pub close-certified : {P : ℕ} {s : State} → Sound g source P s → allIdle (s .workers) ≡ true → isEmpty (united (s .workers)) ≡ true
+      → Certified g source (s .labels)
+  close-certified {s = s} h idle empty = last-certified (h .labels-sound) (h .crew-sound) (idle-each (s .workers) idle) empty

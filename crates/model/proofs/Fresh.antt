@@ -1,0 +1,162 @@
+-- A crew that is idle but for worker 0's input bag, as every layer starts. If that bag holds the layer, the crew is sound and the layer is open.
+use mathlib.Core.Path.{_≡_, refl, _∙_}
+use mathlib.Core.Bool.{Bool, true}
+use mathlib.Core.List.{List, [], _∷_}
+use mathlib.Core.Option.{some}
+use Prim.Native.Nat.{ℕ, zero, suc, _≤_, _<_}
+use native.Mathlib.Omega.{arith}
+use lib.ListN.{length, getD, set, length-set}
+use lib.Seq.{getD-set-same, getD-set-other}
+use borrow.Author.Tests.{eq-eqb}
+use Rattle.lists.specs.Lists.{sumOf}
+use Rattle.lists.proofs.Sums.{sum-set}
+use Rattle.graph.specs.Graph.{Graph}
+use Rattle.pennant.specs.Bag.{Bag, emptyBag, isEmpty}
+use Rattle.pennant.specs.Held.{one, only, size, copies, Shaped}
+use Rattle.pennant.proofs.Laws.{weigh-empty, empty-size, empty-weighs, shaped-empty}
+use Rattle.model.specs.Paths.{Distance, Labels, distanceOf, parentOf, isSet}
+use Rattle.model.specs.State.{free, Worker, worker, idleWorker, workerAt}
+use Rattle.model.specs.Demand.{LayerOpen}
+use Rattle.model.proofs.Counts.{setOne, handOf, namingOf, atOf, inputs, hands, namings, ats}
+use Rattle.model.proofs.Sound.{WorkerSound, CrewSound}
+
+-- Lists.
+
+-- a list on which the weight is 0 everywhere
+pub sum-none : {A : Type 0} (f : A → ℕ) (d : A) (l : List A) → ((i : ℕ) → f (getD l i d) ≡ 0) → sumOf f l ≡ 0
+unfolding sumOf
+sum-none f d [] h = refl
+sum-none f d (x ∷ l) h = omega (arith, h 0, sum-none f d l (λ i. h (suc i)))
+
+-- .. and such a list with its first element replaced
+pub sum-first : {A : Type 0} (f : A → ℕ) (d : A) (l : List A) (y : A) → 1 ≤ length l → ((i : ℕ) → f (getD l i d) ≡ 0) → sumOf f (set l 0 y) ≡ f y
+sum-first f d l y long h = omega (arith, sum-set f l 0 y d long, sum-none f d l h, h 0)
+
+-- what holds of every element, and of what is read past the end, holds with the first one replaced if it holds of the new one
+pub set-first : {A : Type 0} (Q : A → Type 0) (d : A) (l : List A) (y : A) → 1 ≤ length l → Q y → ((i : ℕ) → Q (getD l i d))
+    → (i : ℕ) → Q (getD (set l 0 y) i d)
+set-first Q d [] y long new old i = absurd (omega arith)
+set-first Q d (x ∷ l) y long new old zero = new
+set-first Q d (x ∷ l) y long new old (suc i) = old (suc i)
+
+-- Workers.
+
+-- the empty bag is empty
+pub empty-bag : isEmpty emptyBag ≡ true
+empty-bag = empty-size emptyBag ∙ eq-eqb (size emptyBag) 0 (weigh-empty one)
+
+-- a worker that is free and whose input bag is empty
+pub record Idle (w : Worker) : Type 0 where
+  pub input-empty : isEmpty (w .input) ≡ true
+  pub phase-free : w .phase ≡ free
+
+-- .. and whose output bag is empty too, both in shape
+pub record Spare (w : Worker) : Type 0 where
+  pub idle : Idle w
+  pub output-empty : isEmpty (w .output) ≡ true
+  pub input-shaped : Shaped (w .input)
+  pub output-shaped : Shaped (w .output)
+
+-- a worker with two empty bags
+pub spare-idle : Spare idleWorker
+spare-idle = record {
+  idle = record { input-empty = empty-bag; phase-free = refl };
+  output-empty = empty-bag;
+  input-shaped = shaped-empty;
+  output-shaped = shaped-empty;
+}
+
+-- workers whose bags of one kind are all empty hold no copy of a vertex in them
+pub no-copies : (bagOf : Worker → Bag) (workers : List Worker) → ((w : ℕ) → isEmpty (bagOf (workerAt workers w)) ≡ true)
+    → (v : ℕ) → sumOf (λ (w : Worker). copies v (bagOf w)) workers ≡ 0
+no-copies bagOf workers empty v =
+    sum-none (λ (w : Worker). copies v (bagOf w)) idleWorker workers (λ w. empty-weighs (only v) (bagOf (workerAt workers w)) (empty w))
+
+-- workers that are all free
+module _ (workers : List Worker) (all-free : (w : ℕ) → workerAt workers w .phase ≡ free) where
+  -- have no vertex in hand
+  pub no-hands : (v : ℕ) → hands v workers ≡ 0
+  no-hands v = sum-none (λ (w : Worker). handOf v (w .phase)) idleWorker workers (λ w. rw (all-free w))
+
+  -- none to name
+  pub no-namings : (v : ℕ) → namings v workers ≡ 0
+  no-namings v = sum-none (λ (w : Worker). namingOf v (w .phase)) idleWorker workers (λ w. rw (all-free w))
+
+  -- and no edge to look at
+  pub no-ats : (u i : ℕ) → ats u i workers ≡ 0
+  no-ats u i = sum-none (λ (w : Worker). atOf u i (w .phase)) idleWorker workers (λ w. rw (all-free w))
+
+-- The start of a layer.
+
+-- a bag in shape that holds exactly the vertices of distance d, each 1 to P times
+pub record LayerBag (g : Graph) (source P d : ℕ) (bag : Bag) : Type 0 where
+  pub every : (v : ℕ) → Distance g source v d → 1 ≤ copies v bag
+  pub no-other : (v : ℕ) → 1 ≤ copies v bag → Distance g source v d
+  pub at-most : (v : ℕ) → copies v bag ≤ P
+  pub shaped : Shaped bag
+
+-- P spare workers, at least one
+pub record SpareCrew (P : ℕ) (workers : List Worker) : Type 0 where
+  pub some-worker : 1 ≤ P
+  pub crew : length workers ≡ P
+  pub each : (w : ℕ) → Spare (workerAt workers w)
+
+-- spare workers, the first of whom gets such a bag
+module _ {g : Graph} {source P d : ℕ} {spares : List Worker} {bag : Bag} (spare : SpareCrew P spares) (holds : LayerBag g source P d bag) where
+  -- the worker that gets it
+  abbrev filled : Worker
+  filled = worker bag emptyBag free
+
+  -- the crew then
+  abbrev fresh : List Worker
+  fresh = set spares 0 filled
+
+  -- there is a first worker
+  some-spare : 0 < length spares
+  some-spare = omega (arith, spare .some-worker, spare .crew)
+
+  -- what holds of that worker and of every spare one holds of the crew
+  each-fresh : (Q : Worker → Type 0) → Q filled → ((w : ℕ) → Q (workerAt spares w)) → (w : ℕ) → Q (workerAt fresh w)
+  each-fresh Q new old = set-first Q idleWorker spares filled some-spare new old
+
+  -- output bags are empty
+  fresh-outputs : (w : ℕ) → isEmpty (workerAt fresh w .output) ≡ true
+  fresh-outputs = each-fresh (λ w. isEmpty (w .output) ≡ true) empty-bag (λ w. spare .each w .output-empty)
+
+  -- all are free
+  fresh-free : (w : ℕ) → workerAt fresh w .phase ≡ free
+  fresh-free = each-fresh (λ w. w .phase ≡ free) refl (λ w. spare .each w .idle .phase-free)
+
+  -- input bags hold what the bag holds
+  fresh-inputs : (v : ℕ) → inputs v fresh ≡ copies v bag
+  fresh-inputs v = sum-first (λ (w : Worker). copies v (w .input)) idleWorker spares filled some-spare
+      (λ w. empty-weighs (only v) (workerAt spares w .input) (spare .each w .idle .input-empty))
+
+  -- the crew is sound, if no vertex is set for the next layer yet and each that is set has a parent
+  pub fresh-sound : {x : Labels} → ((v : ℕ) → distanceOf x v ≡ some (suc d) → ⊥)
+      → ((v : ℕ) → isSet (distanceOf x v) ≡ true → 1 ≤ setOne (parentOf x v)) → CrewSound g source P d x fresh
+  fresh-sound {x} none-next parented = record {
+    crew = length-set spares 0 filled ∙ spare .crew;
+    each = each-fresh (WorkerSound g source d x)
+        (record { input-shaped = holds .shaped; output-shaped = shaped-empty; phase-sound = tt })
+        (λ w. let old = spare .each w in
+        record { input-shaped = old .input-shaped; output-shaped = old .output-shaped; phase-sound = rw (old .idle .phase-free) tt });
+    input-near = λ v h. holds .no-other v (omega (arith, fresh-inputs v));
+    output-next = λ v h. absurd (omega (arith, no-copies (λ w. w .output) fresh fresh-outputs v));
+    covered = λ u i far there. omega (arith, fresh-inputs u, holds .every u far);
+    stowed = λ v e. absurd (none-next v e);
+    few-outputs = λ v. omega (arith, no-copies (λ w. w .output) fresh fresh-outputs v, no-hands fresh fresh-free v);
+    few-inputs = λ v. omega (arith, fresh-inputs v, holds .at-most v);
+    parented = λ v e. omega (arith, parented v e);
+  }
+
+  -- and the layer is open
+  pub fresh-opens : (x : Labels) (finished : Bool) → LayerOpen g source P (record { labels = x; workers = fresh; layer = d; finished = finished })
+  fresh-opens x finished = let first = getD-set-same spares 0 filled idleWorker some-spare in record {
+    every = λ v far. rw first (holds .every v far);
+    no-other = λ v h. holds .no-other v (rw first at h);
+    at-most = λ v. rw first (holds .at-most v);
+    inputs-empty = λ w h. rw (getD-set-other spares 0 w filled idleWorker (λ e. omega arith)) (spare .each w .idle .input-empty);
+    outputs-empty = fresh-outputs;
+    all-free = fresh-free;
+  }

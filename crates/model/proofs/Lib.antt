@@ -1,0 +1,23 @@
+-- Demand 3, proved of playing any schedule.
+pub mod Bench
+pub mod Counts
+pub mod Sound
+pub mod Walks
+pub mod Certificate
+pub mod MovingLabels
+pub mod Moving
+pub mod Crew
+pub mod Fresh
+pub mod Opening
+pub mod Closing
+pub mod Cost
+pub mod CostFacts
+pub mod Costs
+pub mod Fits
+pub mod Members
+pub mod SerialRun
+pub mod Rounds
+pub mod Steps
+pub mod Used
+pub mod Theorem
+pub mod Calls

@@ -1,0 +1,137 @@
+-- The opening state is sound and opens layer 0: the source alone is labelled, and it is alone in worker 0's input bag.
+use mathlib.Core.Path.{_≡_, refl, ap, _∙_}
+use mathlib.Core.Bool.{Bool, true, false, cond}
+use mathlib.Core.List.{List}
+use mathlib.Core.Option.{Option, none, some}
+use Prim.Native.Nat.{ℕ, zero, suc, _+_, _*_, _≤_, _<_}
+use native.Mathlib.Omega.{arith}
+use lib.Dec.{eqb}
+use lib.ListN.{length, getD, set, replicate, length-set, length-replicate}
+use lib.Seq.{getD-set-same, getD-set-other}
+use borrow.Author.Tests.{eqb-true, eqb-false}
+use Rattle.lists.specs.Lists.{sumOf}
+use Rattle.lists.proofs.Sums.{sum-set}
+use Rattle.graph.specs.Graph.{Graph}
+use Rattle.pennant.specs.Bag.{emptyBag, bagInsert}
+use Rattle.pennant.specs.Held.{only, copies}
+use Rattle.pennant.proofs.Laws.{weigh-empty, weigh-insert, only-self, shaped-empty, shaped-insert}
+use Rattle.model.specs.Paths.{Distance}
+use Rattle.model.specs.State.{idleWorker, openingLabels, openingState}
+use Rattle.model.specs.Demand.{LayerOpen}
+use Rattle.model.proofs.Counts.{unsetOne, unsets}
+use Rattle.model.proofs.Sound.{Ground, LabelsSound, Sound}
+use Rattle.model.proofs.Walks.{walk-zero, distance-source, set-value}
+use Rattle.model.proofs.Fresh.{spare-idle, SpareCrew, LayerBag, fresh-sound, fresh-opens}
+
+-- Lists.
+
+-- n times a has a everywhere, and past its end if that is read as a too
+pub getD-same : {A : Type 0} (n i : ℕ) (a : A) → getD (replicate n a) i a ≡ a
+getD-same zero i a = refl
+getD-same (suc n) zero a = refl
+getD-same (suc n) (suc i) a = getD-same n i a
+
+-- n times a weighs n times what a weighs
+pub sum-replicate : {A : Type 0} (f : A → ℕ) (n : ℕ) (a : A) → sumOf f (replicate n a) ≡ n * f a
+unfolding sumOf
+sum-replicate f zero a = omega arith
+sum-replicate f (suc n) a = omega (arith, sum-replicate f n a)
+
+module _ {g : Graph} {source : ℕ} (ground : Ground g source) where
+  -- Labels.
+
+  -- no vertex has a label
+  abbrev unlabelled : List (Option ℕ)
+  unlabelled = replicate (length g) none
+
+  -- the source alone has one
+  abbrev alone : ℕ → List (Option ℕ)
+  alone y = set unlabelled source (some y)
+
+  -- every vertex has its place
+  alone-all : (y : ℕ) → length (alone y) ≡ length g
+  alone-all y = length-set unlabelled source (some y) ∙ length-replicate (length g) none
+
+  -- the source has its place
+  source-there : source < length unlabelled
+  source-there = rw length-replicate (ground .starts)
+
+  -- the source has that label
+  alone-own : (y : ℕ) → getD (alone y) source none ≡ some y
+  alone-own y = getD-set-same unlabelled source (some y) none source-there
+
+  -- what is set is the source's label
+  alone-only : (y v k : ℕ) → getD (alone y) v none ≡ some k → (v ≡ source) × (k ≡ y)
+  alone-only y v k e = go (eqb v source) refl
+    where
+      go : (b : Bool) → eqb v source ≡ b → (v ≡ source) × (k ≡ y)
+      go true q = let same = eqb-true v source q in let own = alone-own y in (same, cc)
+      go false q =
+          let other = getD-set-other unlabelled source v (some y) none (eqb-false v source q) ∙ getD-same (length g) v none in
+          let z : _≡_ {A = ℕ} 0 1 = cc in
+          absurd (omega arith)
+
+  -- all but one are unset
+  alone-unsets : (y : ℕ) → 1 + unsets (alone y) ≡ length g
+  alone-unsets y =
+      let replaced = sum-set unsetOne unlabelled source (some y) none source-there in
+      omega (arith, sum-replicate unsetOne (length g) none, ap unsetOne (getD-same (length g) source none))
+
+  -- the opening labels are sound
+  opening-labels : LabelsSound g source 0 (openingLabels (length g) source)
+  unfolding openingLabels
+  opening-labels = record {
+    distances-all = alone-all 0;
+    parents-all = alone-all source;
+    written = λ v k e. let q = alone-only 0 v k e in rw (q .0, q .1) distance-source;
+    not-far = λ v k e. omega (arith, alone-only 0 v k e);
+    near = λ v k w h. rw (walk-zero w (omega arith), alone-own 0);
+    room = omega (arith, alone-unsets 0);
+    more-room = λ v e. absurd (omega (arith, alone-only 0 v 1 e));
+    own-parent = alone-own source;
+    parent = λ v p apart e. absurd (apart (alone-only source v p e .0));
+  }
+
+  -- Workers.
+
+  -- worker 0's input bag holds the source once
+  opening-copies : (v : ℕ) → copies v (bagInsert source emptyBag) ≡ only v source
+  opening-copies v = omega (arith, weigh-insert (only v) source emptyBag, weigh-empty (only v))
+
+  -- which is layer 0
+  opening-bag : (P : ℕ) → 1 ≤ P → LayerBag g source P 0 (bagInsert source emptyBag)
+  opening-bag P p = record {
+    every = λ v far. rw (walk-zero (far .walk) refl) (omega (arith, opening-copies source, only-self source));
+    no-other = λ v h. there v (eqb source v) refl (omega (arith, opening-copies v));
+    at-most = λ v. omega (arith, opening-copies v, few (eqb source v));
+    shaped = shaped-insert source emptyBag shaped-empty;
+  }
+    where
+      -- what is held is the source
+      there : (v : ℕ) (b : Bool) → eqb source v ≡ b → 1 ≤ only v source → Distance g source v 0
+      there v true e h = rw (← eqb-true source v e) distance-source
+      there v false e h = absurd (omega (arith, rw e at h))
+
+      -- once
+      few : (b : Bool) → cond b 1 0 ≤ 1
+      few true = omega arith
+      few false = omega arith
+
+  -- all bags are empty before that
+  opening-crew : (P : ℕ) → 1 ≤ P → SpareCrew P (replicate P idleWorker)
+  opening-crew P p = record { some-worker = p; crew = length-replicate P idleWorker; each = λ w. rw (getD-same P w idleWorker) spare-idle }
+
+  -- the opening state is sound
+  pub opening-sound : (P : ℕ) → 1 ≤ P → Sound g source P (openingState (length g) source P)
+  unfolding openingState openingLabels
+  opening-sound P p = record {
+    labels-sound = opening-labels;
+    crew-sound = fresh-sound (opening-crew P p) (opening-bag P p)
+        (λ v e. omega (arith, alone-only 0 v 1 e))
+        (λ v e. let label = set-value (getD (alone 0) v none) e in rw (alone-only 0 v (label .value) (label .is) .0, alone-own source) (omega arith));
+  }
+
+  -- and opens layer 0
+  pub opening-opens : (P : ℕ) → 1 ≤ P → LayerOpen g source P (openingState (length g) source P)
+  unfolding openingState
+  opening-opens P p = fresh-opens (opening-crew P p) (opening-bag P p) (openingLabels (length g) source) false

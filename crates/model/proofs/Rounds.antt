@@ -1,0 +1,305 @@
+-- Full rounds: in a search that isn't finished one of the events of a round is effective, so a schedule that doesn't finish has no more rounds
+-- than effective events.
+use mathlib.Core.Path.{_≡_, refl, sym, _∙_, ap}
+use mathlib.Core.Bool.{Bool, true, false, cond, not, _&&_, true≢false}
+use mathlib.Core.List.{List, [], _∷_, _++_, map, foldl, foldl-append}
+use mathlib.Core.Option.{Option, none, some}
+use Prim.Native.Nat.{ℕ, zero, suc, _+_, _*_, _≤_, _<_}
+use native.Mathlib.Omega.{arith}
+use lib.Dec.{eqb}
+use lib.ListN.{length, drop, set, length-set, length-map, length-append, length-drop}
+use borrow.Author.Tests.{eqb-true, eqb-false, ne-eqb}
+use Rattle.lists.specs.Lists.{numbersFrom}
+use Rattle.graph.specs.Graph.{Graph}
+use Rattle.pennant.specs.Bag.{Bag, isEmpty, atLeastTwo}
+use Rattle.schedule.specs.declared.Event.{Event}
+use Rattle.schedule.specs.declared.Event.the-variants.{Work, Split, Unite, Close, Malformed}
+use Rattle.schedule.specs.Events.{eventOf}
+use Rattle.schedule.proofs.Bytes.{event-work, event-close}
+use Rattle.model.specs.Paths.{Labels}
+use Rattle.model.specs.State.{Phase, free, holding, inHand, marked, named, Worker, State, workerAt}
+use Rattle.model.specs.Table.{move, moved, splitInputs, uniteOutputs, isFree, allIdle, united, closed, act, handedIn, withWorkers}
+use Rattle.model.specs.Play.{Run, tally, step, playFrom, roundBytes, startsWith, rounds}
+
+-- no event adds or removes a worker
+
+moved-crew : (s t : State) (w : ℕ) (m : Option (Worker × Labels)) → moved s w m ≡ some t → length (t .workers) ≡ length (s .workers)
+unfolding moved
+moved-crew s t w none e = let z : _≡_ {A = ℕ} 0 1 = cc in absurd (omega arith)
+moved-crew s t w (some m) e =
+    let same : record { labels = m .1; workers = set (s .workers) w (m .0); layer = s .layer; finished = s .finished } ≡ t = cc in
+    rw (← same) (length-set (s .workers) w (m .0))
+
+-- where the condition is met, the state is the one after
+crew-after : (s t u : State) (b : Bool) → length (u .workers) ≡ length (s .workers) → cond b (some u) none ≡ some t → length (t .workers) ≡ length (s .workers)
+crew-after s t u true same e = let after : u ≡ t = cc in rw (← after) same
+crew-after s t u false same e = let z : _≡_ {A = ℕ} 0 1 = cc in absurd (omega arith)
+
+closed-crew : (s : State) (bag : Bag) (b : Bool) → isEmpty bag ≡ b → length (closed s bag .workers) ≡ length (s .workers)
+unfolding closed
+closed-crew s bag true e = rw e
+closed-crew s bag false e = rw e (length-set (map handedIn (s .workers)) 0 _ ∙ length-map (s .workers) handedIn)
+
+split-crew : (workers : List Worker) (w v : ℕ) → length (splitInputs workers w v) ≡ length workers
+unfolding splitInputs
+split-crew workers w v = simp length-set
+
+unite-crew : (workers : List Worker) (w v : ℕ) → length (uniteOutputs workers w v) ≡ length workers
+unfolding uniteOutputs
+unite-crew workers w v = simp length-set
+
+pub act-crew : (g : Graph) (s t : State) (e : Event) → act g s e ≡ some t → length (t .workers) ≡ length (s .workers)
+unfolding act
+act-crew g s t (Work w) h = moved-crew s t w _ h
+act-crew g s t (Split w v) h =
+    crew-after s t (withWorkers s (splitInputs (s .workers) w v)) (isEmpty (workerAt (s .workers) w .input) && atLeastTwo (workerAt (s .workers) v .input)) (split-crew (s .workers) w v) h
+act-crew g s t (Unite w v) h =
+    crew-after s t (withWorkers s (uniteOutputs (s .workers) w v)) (not (isEmpty (workerAt (s .workers) w .output)) && not (isEmpty (workerAt (s .workers) v .output))) (unite-crew (s .workers) w v) h
+act-crew g s t Close h = crew-after s t (closed s (united (s .workers))) (allIdle (s .workers)) (closed-crew s (united (s .workers)) _ refl) h
+act-crew g s t Malformed h = let z : _≡_ {A = ℕ} 0 1 = cc in absurd (omega arith)
+
+-- One byte, and many.
+
+-- a tally keeps the number of workers
+tally-crew : (g : Graph) (r : Run) (e : Event) (o : Option State) → act g (r .state) e ≡ o → length (tally r o .state .workers) ≡ length (r .state .workers)
+unfolding tally
+tally-crew g r e none h = refl
+tally-crew g r e (some t) h = act-crew g (r .state) t e h
+
+-- a byte after the finishing event is not used
+pub step-over : (g : Graph) (r : Run) (byte : ℕ) → r .state .finished ≡ true → step g r byte ≡ r
+unfolding step
+step-over g r byte e = ap (λ (f : Bool). cond f r (tally r (act g (r .state) (eventOf byte)))) e
+
+-- any other is
+pub step-on : (g : Graph) (r : Run) (byte : ℕ) → r .state .finished ≡ false → step g r byte ≡ tally r (act g (r .state) (eventOf byte))
+unfolding step
+step-on g r byte e = ap (λ (f : Bool). cond f r (tally r (act g (r .state) (eventOf byte)))) e
+
+-- a byte keeps the number of workers
+pub step-crew : (g : Graph) (r : Run) (byte : ℕ) (f : Bool) → r .state .finished ≡ f → length (step g r byte .state .workers) ≡ length (r .state .workers)
+step-crew g r byte true e = ap (λ (q : Run). length (q .state .workers)) (step-over g r byte e)
+step-crew g r byte false e = ap (λ (q : Run). length (q .state .workers)) (step-on g r byte e) ∙ tally-crew g r (eventOf byte) _ refl
+
+-- a tally counts what it has counted, or one more
+tally-grows : (r : Run) (o : Option State) → r .effective ≤ tally r o .effective
+unfolding tally
+tally-grows r none = omega arith
+tally-grows r (some t) = omega arith
+
+-- a byte never lowers the count
+step-grows : (g : Graph) (r : Run) (byte : ℕ) (f : Bool) → r .state .finished ≡ f → r .effective ≤ step g r byte .effective
+step-grows g r byte true e = omega (arith, ap (λ (q : Run). q .effective) (step-over g r byte e))
+step-grows g r byte false e = omega (arith, ap (λ (q : Run). q .effective) (step-on g r byte e), tally-grows r (act g (r .state) (eventOf byte)))
+
+-- nor do many
+play-grows : (g : Graph) (r : Run) (schedule : List ℕ) → r .effective ≤ playFrom g r schedule .effective
+unfolding playFrom
+play-grows g r [] = omega arith
+play-grows g r (byte ∷ schedule) = omega (arith, step-grows g r byte _ refl, play-grows g (step g r byte) schedule)
+
+-- they keep the number of workers
+play-crew : (g : Graph) (r : Run) (schedule : List ℕ) → length (playFrom g r schedule .state .workers) ≡ length (r .state .workers)
+unfolding playFrom
+play-crew g r [] = refl
+play-crew g r (byte ∷ schedule) = play-crew g (step g r byte) schedule ∙ step-crew g r byte _ refl
+
+-- once finished, nothing is used
+pub play-finished : (g : Graph) (r : Run) (schedule : List ℕ) → r .state .finished ≡ true → playFrom g r schedule ≡ r
+unfolding playFrom
+play-finished g r [] e = refl
+play-finished g r (byte ∷ schedule) e = ap (λ (q : Run). foldl (step g) q schedule) (step-over g r byte e) ∙ play-finished g r schedule e
+
+-- a run that isn't finished at the end isn't finished at the start
+play-unfinished : (g : Graph) (r : Run) (schedule : List ℕ) (f : Bool) → r .state .finished ≡ f → playFrom g r schedule .state .finished ≡ false → f ≡ false
+play-unfinished g r schedule false e h = refl
+play-unfinished g r schedule true e h =
+    absurd (true≢false (sym e ∙ sym (ap (λ (q : Run). q .state .finished) (play-finished g r schedule e)) ∙ h))
+
+-- One round.
+
+-- a worker that cannot move is free and its input bag is empty
+stuck-idle : (g : Graph) (d : ℕ) (x : Labels) (input output : Bag) (phase : Phase) (b : Bool) → isEmpty input ≡ b → move g d x input output phase ≡ none
+  → (isFree phase ≡ true) × (isEmpty input ≡ true)
+unfolding move isFree
+stuck-idle g d x input output free true e h = (refl, e)
+stuck-idle g d x input output free false e h = let k = rw e at h in let z : _≡_ {A = ℕ} 0 1 = cc in absurd (omega arith)
+stuck-idle g d x input output (holding u i) b e h = let z : _≡_ {A = ℕ} 0 1 = cc in absurd (omega arith)
+stuck-idle g d x input output (inHand u i t) b e h = let z : _≡_ {A = ℕ} 0 1 = cc in absurd (omega arith)
+stuck-idle g d x input output (marked u i t) b e h = let z : _≡_ {A = ℕ} 0 1 = cc in absurd (omega arith)
+stuck-idle g d x input output (named u i t) b e h = let z : _≡_ {A = ℕ} 0 1 = cc in absurd (omega arith)
+
+-- .. and a move that is none is that of such a worker
+act-stuck : (s : State) (w : ℕ) (m : Option (Worker × Labels)) → moved s w m ≡ none → m ≡ none
+unfolding moved
+act-stuck s w none h = refl
+act-stuck s w (some m) h = let z : _≡_ {A = ℕ} 0 1 = cc in absurd (omega arith)
+
+-- a worker without a move is free with an empty input bag
+Idle : Worker → Type 0
+Idle w = (isFree (w .phase) ≡ true) × (isEmpty (w .input) ≡ true)
+
+-- workers of which each is idle are all idle
+all-idle : (workers : List Worker) → ((w : ℕ) → w < length workers → Idle (workerAt workers w)) → allIdle workers ≡ true
+unfolding Idle allIdle
+all-idle [] h = refl
+all-idle (w ∷ workers) h = rw (h 0 (omega arith) .0, h 0 (omega arith) .1) (all-idle workers (λ i k. h (suc i) (omega arith)))
+
+-- a close where all are idle is effective
+act-close : (g : Graph) (s : State) → allIdle (s .workers) ≡ true → act g s Close ≡ some (closed s (united (s .workers)))
+unfolding act
+act-close g s e = ap (λ (b : Bool). cond b (some (closed s (united (s .workers)))) none) e
+
+-- a work that isn't effective is that of an idle worker
+work-idle : (g : Graph) (s : State) (w : ℕ) → act g s (Work w) ≡ none → Idle (workerAt (s .workers) w)
+unfolding act Idle
+work-idle g s w h =
+    let x = workerAt (s .workers) w in
+    stuck-idle g (s .layer) (s .labels) (x .input) (x .output) (x .phase) _ refl (act-stuck s w (move g (s .layer) (s .labels) (x .input) (x .output) (x .phase)) h)
+
+-- an effective event counts one
+tally-some : (r : Run) (t : State) → tally r (some t) .effective ≡ suc (r .effective)
+unfolding tally
+tally-some r t = refl
+
+-- one that isn't leaves state and count
+tally-none : (r : Run) → (tally r none .state ≡ r .state) × (tally r none .effective ≡ r .effective)
+unfolding tally
+tally-none r = (refl, refl)
+
+-- the bytes of a round from worker j on
+abbrev roundFrom : ℕ → ℕ → List ℕ
+roundFrom j k = map (λ (w : ℕ). 8 * w) (numbersFrom j k) ++ 192 ∷ []
+
+-- where the workers before j are idle, one of the events of a round from j on is effective
+round-grows : (g : Graph) (P : ℕ) → P ≤ 8 → (k j : ℕ) → j + k ≡ P → (r : Run) → r .state .finished ≡ false → length (r .state .workers) ≡ P
+  → ((w : ℕ) → w < j → Idle (workerAt (r .state .workers) w)) → suc (r .effective) ≤ playFrom g r (roundFrom j k) .effective
+unfolding Idle playFrom numbersFrom
+round-grows g P few zero j e r f crew idle =
+    let now : act g (r .state) (eventOf 192) ≡ some (closed (r .state) (united (r .state .workers))) =
+          rw event-close (act-close g (r .state) (all-idle (r .state .workers) (λ w h. idle w (omega arith)))) in
+    let counted : step g r 192 .effective ≡ suc (r .effective) =
+          ap (λ (q : Run). q .effective) (step-on g r 192 f) ∙ ap (λ (o : Option State). tally r o .effective) now ∙ tally-some r (closed (r .state) (united (r .state .workers))) in
+    omega (arith, counted)
+round-grows g P few (suc k) j e r f crew idle = go (act g (r .state) (Work j)) refl (round-grows g P few k (suc j) (omega arith) (step g r (8 * j)))
+  where
+    after : (o : Option State) → act g (r .state) (Work j) ≡ o → step g r (8 * j) ≡ tally r o
+    after o h = step-on g r (8 * j) f ∙ ap (λ (v : Event). tally r (act g (r .state) v)) (event-work j (omega arith)) ∙ ap (tally r) h
+    next : (w : ℕ) → w < suc j → (b : Bool) → eqb w j ≡ b → Idle (workerAt (r .state .workers) j) → Idle (workerAt (r .state .workers) w)
+    next w below true at here = rw (eqb-true w j at) here
+    next w below false at here = idle w (omega (arith, eqb-false w j at))
+    rest : ℕ → Run → Type 0
+    rest i q = q .state .finished ≡ false → length (q .state .workers) ≡ P → ((w : ℕ) → w < i → Idle (workerAt (q .state .workers) w))
+      → suc (q .effective) ≤ playFrom g q (roundFrom i k) .effective
+    go : (o : Option State) → act g (r .state) (Work j) ≡ o → rest (suc j) (step g r (8 * j)) → suc (r .effective) ≤ playFrom g (step g r (8 * j)) (roundFrom (suc j) k) .effective
+    go none h others =
+        let same : step g r (8 * j) .state ≡ r .state = ap (λ (q : Run). q .state) (after none h) ∙ tally-none r .0 in
+        let count : step g r (8 * j) .effective ≡ r .effective = ap (λ (q : Run). q .effective) (after none h) ∙ tally-none r .1 in
+        omega (arith, count, others (rw same f) (rw same crew) (λ w below. rw same (next w below _ refl (work-idle g (r .state) j h))))
+    go (some t) h others =
+        omega (arith, ap (λ (q : Run). q .effective) (after (some t) h), tally-some r t, play-grows g (step g r (8 * j)) (roundFrom (suc j) k))
+
+-- a round has bytes
+round-long : (P : ℕ) → 1 ≤ length (roundBytes P)
+unfolding roundBytes
+round-long P = omega (arith, length-append (map (λ (w : ℕ). 8 * w) (numbersFrom 0 P)) (192 ∷ []))
+
+-- a round played from the start of any state that isn't finished
+full-round : (g : Graph) (P : ℕ) → 1 ≤ P → P ≤ 8 → (r : Run) → r .state .finished ≡ false → length (r .state .workers) ≡ P
+  → suc (r .effective) ≤ playFrom g r (roundBytes P) .effective
+unfolding roundBytes
+full-round g P p q r live crew = round-grows g P q P 0 (omega arith) r live crew (λ w h. absurd (omega arith))
+
+-- two schedules, one after the other
+pub play-append : (g : Graph) (r : Run) (a b : List ℕ) → playFrom g r (a ++ b) ≡ playFrom g (playFrom g r a) b
+unfolding playFrom
+play-append g r a b = foldl-append (step g) r a b
+
+-- Counting rounds where they stand.
+
+-- a list that starts with another is that one and a rest
+starts-split : (front bytes : List ℕ) → startsWith front bytes ≡ true → bytes ≡ front ++ drop (length front) bytes
+unfolding startsWith
+starts-split [] bytes h = refl
+starts-split (x ∷ front) [] h = absurd (true≢false (sym h))
+starts-split (x ∷ front) (y ∷ bytes) h = go (eqb x y) refl h (starts-split front bytes)
+  where
+    go : (b : Bool) → eqb x y ≡ b → b && startsWith front bytes ≡ true → (startsWith front bytes ≡ true → bytes ≡ front ++ drop (length front) bytes)
+      → y ∷ bytes ≡ x ∷ front ++ drop (length front) bytes
+    go true e k rest = rw (eqb-true x y e) (ap (λ (l : List ℕ). y ∷ l) (rest k))
+    go false e k rest = absurd (true≢false (sym k))
+
+-- no round starts with a byte that isn't 0
+nonzero-start : (P byte : ℕ) (bytes : List ℕ) → 1 ≤ P → (byte ≡ 0 → ⊥) → startsWith (roundBytes P) (byte ∷ bytes) ≡ false
+unfolding roundBytes startsWith numbersFrom
+nonzero-start zero byte bytes p h = absurd (omega arith)
+nonzero-start (suc P) byte bytes p h = rw (ne-eqb 0 byte (λ e. h (sym e)))
+
+-- so none starts within a round
+rounds-after : (P : ℕ) → 1 ≤ P → (k j : ℕ) → 1 ≤ j → (rest : List ℕ) → rounds P (roundFrom j k ++ rest) ≡ rounds P rest
+unfolding rounds numbersFrom
+rounds-after P p zero j h rest = rw (nonzero-start P 192 rest p (λ e. omega arith)) (omega arith)
+rounds-after P p (suc k) j h rest =
+    rw (nonzero-start P (8 * j) (roundFrom (suc j) k ++ rest) p (λ e. omega arith)) (omega (arith, rounds-after P p k (suc j) (omega arith) rest))
+
+-- a full round counts one, whatever stands after it
+rounds-round : (P : ℕ) → 1 ≤ P → (rest : List ℕ) → startsWith (roundBytes P) (roundBytes P ++ rest) ≡ true → rounds P (roundBytes P ++ rest) ≡ suc (rounds P rest)
+unfolding rounds roundBytes numbersFrom
+rounds-round zero p rest h = absurd (omega arith)
+rounds-round (suc P) p rest h = rw h (omega (arith, rounds-after (suc P) p P 1 (omega arith) rest))
+
+-- a schedule that doesn't finish has no more rounds than effective events, if it has at most so many bytes
+abbrev Counted : Graph → ℕ → ℕ → Type 0
+Counted g P most = (r : Run) (schedule : List ℕ) → length schedule ≤ most → length (r .state .workers) ≡ P → playFrom g r schedule .state .finished ≡ false
+  → r .effective + rounds P schedule ≤ playFrom g r schedule .effective
+
+-- a byte at which no round starts
+counted-byte : (g : Graph) (P most : ℕ) → Counted g P most → (r : Run) (byte : ℕ) (schedule : List ℕ) → length schedule ≤ most → length (r .state .workers) ≡ P
+  → playFrom g (step g r byte) schedule .state .finished ≡ false → r .effective + rounds P schedule ≤ playFrom g (step g r byte) schedule .effective
+counted-byte g P most shorter r byte schedule h crew f =
+    omega (arith, shorter (step g r byte) schedule h (step-crew g r byte _ refl ∙ crew) f, step-grows g r byte _ refl)
+
+-- a round, and what stands after it
+counted-round : (g : Graph) (P most : ℕ) → 1 ≤ P → P ≤ 8 → Counted g P most → (r : Run) (rest : List ℕ) → length rest ≤ most → length (r .state .workers) ≡ P
+  → r .state .finished ≡ false → playFrom g r (roundBytes P ++ rest) .state .finished ≡ false
+  → suc (r .effective) + rounds P rest ≤ playFrom g r (roundBytes P ++ rest) .effective
+counted-round g P most p q shorter r rest h crew live f =
+    let apart : playFrom g r (roundBytes P ++ rest) ≡ playFrom g (playFrom g r (roundBytes P)) rest = play-append g r (roundBytes P) rest in
+    let after = playFrom g r (roundBytes P) in
+    let counted = shorter after rest h (play-crew g r (roundBytes P) ∙ crew) (sym (ap (λ (x : Run). x .state .finished) apart) ∙ f) in
+    omega (arith, counted, full-round g P p q r live crew, ap (λ (x : Run). x .effective) apart)
+
+-- bytes that start with a round
+counted-start : (g : Graph) (P most : ℕ) → 1 ≤ P → P ≤ 8 → Counted g P most → (r : Run) (bytes : List ℕ) → length bytes ≤ suc most → length (r .state .workers) ≡ P
+  → playFrom g r bytes .state .finished ≡ false → startsWith (roundBytes P) bytes ≡ true → r .effective + rounds P bytes ≤ playFrom g r bytes .effective
+counted-start g P most p q shorter r bytes h crew f e =
+    let rest = drop (length (roundBytes P)) bytes in
+    let apart : bytes ≡ roundBytes P ++ rest = starts-split (roundBytes P) bytes e in
+    let short : length rest ≤ most = omega (arith, length-drop (length (roundBytes P)) bytes, round-long P) in
+    let counted = counted-round g P most p q shorter r rest short crew (play-unfinished g r bytes _ refl f) (sym (ap (λ (l : List ℕ). playFrom g r l .state .finished) apart) ∙ f) in
+    omega (arith, counted, ap (rounds P) apart, rounds-round P p rest (sym (ap (startsWith (roundBytes P)) apart) ∙ e), ap (λ (l : List ℕ). playFrom g r l .effective) apart)
+
+-- one byte more
+counted-more : (g : Graph) (P most : ℕ) → 1 ≤ P → P ≤ 8 → Counted g P most → Counted g P (suc most)
+unfolding rounds playFrom
+counted-more g P most p q shorter r [] h crew f = omega arith
+counted-more g P most p q shorter r (byte ∷ schedule) h crew f = go (startsWith (roundBytes P) (byte ∷ schedule)) refl
+  where
+    go : (b : Bool) → startsWith (roundBytes P) (byte ∷ schedule) ≡ b → r .effective + (cond b 1 0 + rounds P schedule) ≤ playFrom g (step g r byte) schedule .effective
+    go false e = omega (arith, counted-byte g P most shorter r byte schedule (omega arith) crew f)
+    go true e =
+        let here : rounds P (byte ∷ schedule) ≡ 1 + rounds P schedule = rw e in
+        omega (arith, here, counted-start g P most p q shorter r (byte ∷ schedule) h crew f e)
+
+-- the count of rounds
+pub rounds-count : (g : Graph) (P : ℕ) (r : Run) (schedule : List ℕ) → 1 ≤ P → P ≤ 8 → length (r .state .workers) ≡ P → playFrom g r schedule .state .finished ≡ false
+  → r .effective + rounds P schedule ≤ playFrom g r schedule .effective
+unfolding rounds playFrom
+rounds-count g P r schedule p q crew f = counted (length schedule) r schedule (omega arith) crew f
+  where
+    none-left : Counted g P 0
+    none-left r [] h crew f = omega arith
+    none-left r (byte ∷ l) h crew f = absurd (omega arith)
+    counted : (most : ℕ) → Counted g P most
+    counted zero = none-left
+    counted (suc most) = counted-more g P most p q (counted most)

@@ -1,0 +1,209 @@
+-- One event, and one byte: what they keep. Every event's part (a move, a split, a union, a close) is proved in its own file; here they are joined.
+use mathlib.Core.Path.{_≡_, refl, sym, _∙_, ap}
+use mathlib.Core.Bool.{Bool, true, false, cond, not, _&&_, true≢false}
+use mathlib.Core.List.{List, map}
+use mathlib.Core.Option.{Option, none, some}
+use Prim.Native.Nat.{ℕ, suc, _+_, _≤_, _<_}
+use native.Mathlib.Omega.{arith}
+use lib.ListN.{length, set}
+use Rattle.lists.specs.Lists.{sumOf}
+use Rattle.lists.proofs.Sums.{sum-at}
+use Rattle.graph.specs.Graph.{Graph}
+use Rattle.pennant.specs.Bag.{Bag, emptyBag, isEmpty, atLeastTwo}
+use Rattle.pennant.specs.Held.{only, copies}
+use Rattle.pennant.proofs.Laws.{weigh-empty}
+use Rattle.schedule.specs.declared.Event.{Event}
+use Rattle.schedule.specs.declared.Event.the-variants.{Work, Split, Unite, Close, Malformed}
+use Rattle.schedule.specs.Events.{eventOf, within}
+use Rattle.schedule.proofs.Bytes.{within-work, within-split, within-unite, split-apart, unite-apart}
+use Rattle.model.specs.Paths.{Distance, Labels, Certified}
+use Rattle.model.specs.State.{free, Worker, worker, idleWorker, State, workerAt}
+use Rattle.model.specs.Table.{move, moved, withWorkers, handedIn, splitInputs, uniteOutputs, allIdle, united, closed, act}
+use Rattle.model.specs.Play.{Run, tally, step, playFrom, eventBound}
+use Rattle.model.specs.Demand.{LayerOpen}
+use Rattle.model.proofs.Sound.{Ground, LabelsSound, WorkerSound, CrewSound, Sound, Moves}
+use Rattle.model.proofs.Cost.{cost}
+use Rattle.model.proofs.Rounds.{step-over, step-on}
+use Rattle.model.proofs.Moving.{move-sound, move-moves}
+use Rattle.model.proofs.Crew.{crew-moves, crew-split, crew-unite}
+use Rattle.model.proofs.Closing.{close-sound, close-opens, close-certified}
+use Rattle.model.proofs.Costs.{work-cost, split-cost, unite-cost, close-cost}
+
+-- the workers of an event are there, and two of them are two
+abbrev pub Fits : ℕ → Event → Type 0
+Fits P (Work w) = w < P
+Fits P (Split w v) = (w < P) × (v < P) × (w ≡ v → ⊥)
+Fits P (Unite w v) = (w < P) × (v < P) × (w ≡ v → ⊥)
+Fits P Close = Unit {0}
+Fits P Malformed = Unit {0}
+
+-- so it is for every well-formed byte
+pub byte-fits : (P byte : ℕ) (e : Event) → eventOf byte ≡ e → within P e ≡ true → Fits P e
+byte-fits P byte (Work w) e h = within-work P w h
+byte-fits P byte (Split w v) e h = (within-split P w v h .0, within-split P w v h .1, split-apart byte w v e)
+byte-fits P byte (Unite w v) e h = (within-unite P w v h .0, within-unite P w v h .1, unite-apart byte w v e)
+byte-fits P byte Close e h = tt
+byte-fits P byte Malformed e h = tt
+
+-- what an effective event leaves: a sound state, an open layer if d was raised, a certified result if the search is finished, and less to pay
+pub record After (g : Graph) (source P : ℕ) (s t : State) : Type 0 where
+  pub sound : Sound g source P t
+  pub opens : (t .layer ≡ s .layer → ⊥) → LayerOpen g source P t
+  pub ended : t .finished ≡ true → Certified g source (t .labels)
+  pub cheaper : suc (cost P g t) ≤ cost P g s
+
+-- what an event leaves that is no close: the layer stays
+pub record Kept (g : Graph) (source P : ℕ) (s t : State) : Type 0 where
+  pub sound : Sound g source P t
+  pub same-layer : t .layer ≡ s .layer
+  pub same-end : t .finished ≡ s .finished
+
+-- in a search that isn't finished, with less to pay
+kept-after : {g : Graph} {source P : ℕ} {s t : State} → Kept g source P s t → s .finished ≡ false → suc (cost P g t) ≤ cost P g s → After g source P s t
+kept-after k live less = record {
+  sound = k .sound;
+  opens = λ other. absurd (other (k .same-layer));
+  ended = λ e. absurd (true≢false (sym e ∙ k .same-end ∙ live));
+  cheaper = less;
+}
+
+-- where a condition is met, what then holds of the state after it
+met : (C : State → Type 0) (b : Bool) (t u : State) → cond b (some u) none ≡ some t → (b ≡ true → C u) → C t
+met C true t u e k = let same : u ≡ t = cc in rw (← same) (k refl)
+met C false t u e k = let z : _≡_ {A = ℕ} 0 1 = cc in absurd (omega arith)
+
+-- the first of two tests that both hold
+first-of : (a b : Bool) → a && b ≡ true → a ≡ true
+first-of true b e = refl
+first-of false b e = absurd (true≢false (sym e))
+
+module _ {g : Graph} {source : ℕ} (ground : Ground g source) {P : ℕ} where
+  -- the vertices of one input bag belong to this layer
+  input-within : {d : ℕ} {x : Labels} (workers : List Worker) → CrewSound g source P d x workers → (w v : ℕ) → 1 ≤ copies v (workerAt workers w .input) → Distance g source v d
+  input-within workers c w v h = c .input-near v (omega (arith, sum-at (λ (y : Worker). copies v (y .input)) workers w idleWorker (weigh-empty (only v))))
+
+  -- a worker's move
+  moved-kept : (s t : State) (w : ℕ) → Sound g source P s → w < P → (m : Option (Worker × Labels))
+    → move g (s .layer) (s .labels) (workerAt (s .workers) w .input) (workerAt (s .workers) w .output) (workerAt (s .workers) w .phase) ≡ m
+    → moved s w m ≡ some t → Kept g source P s t
+  unfolding moved
+  moved-kept s t w h below none e k = let z : _≡_ {A = ℕ} 0 1 = cc in absurd (omega arith)
+  moved-kept s t w h below (some m) e k =
+      let after : State = record { labels = m .1; workers = set (s .workers) w (m .0); layer = s .layer; finished = s .finished } in
+      let same : after ≡ t = cc in
+      let near = input-within (s .workers) (h .crew-sound) w in
+      let one = h .crew-sound .each w in
+      let sound : Sound g source P after = record {
+            labels-sound = move-sound ground (h .labels-sound) one near e;
+            crew-sound = crew-moves ground (s .workers) w (m .0) (h .crew-sound) below (move-moves ground (h .labels-sound) one near e);
+          } in
+      let kept : Kept g source P s after = record { sound = sound; same-layer = refl; same-end = refl } in
+      rw (← same) kept
+
+  -- other workers, the same labels
+  workers-kept : (s : State) (workers : List Worker) → Sound g source P s → CrewSound g source P (s .layer) (s .labels) workers → Kept g source P s (withWorkers s workers)
+  workers-kept s workers h c = record { sound = record { labels-sound = h .labels-sound; crew-sound = c }; same-layer = refl; same-end = refl }
+
+  -- work
+  work-kept : (s t : State) (w : ℕ) → Sound g source P s → w < P → act g s (Work w) ≡ some t → Kept g source P s t
+  unfolding act
+  work-kept s t w h below k = moved-kept s t w h below _ refl k
+
+  -- a split
+  split-kept : (s t : State) (w v : ℕ) → Sound g source P s → Fits P (Split w v) → act g s (Split w v) ≡ some t → Kept g source P s t
+  unfolding act
+  split-kept s t w v h fits k =
+      let x = workerAt (s .workers) w .input in
+      let y = workerAt (s .workers) v .input in
+      met (Kept g source P s) (isEmpty x && atLeastTwo y) t (withWorkers s (splitInputs (s .workers) w v)) k (λ b.
+        workers-kept s (splitInputs (s .workers) w v) h (crew-split ground (s .workers) w v (h .crew-sound) (fits .0) (fits .1) (fits .2) (first-of (isEmpty x) (atLeastTwo y) b)))
+
+  -- a union
+  unite-kept : (s t : State) (w v : ℕ) → Sound g source P s → Fits P (Unite w v) → act g s (Unite w v) ≡ some t → Kept g source P s t
+  unfolding act
+  unite-kept s t w v h fits k =
+      let x = workerAt (s .workers) w .output in
+      let y = workerAt (s .workers) v .output in
+      met (Kept g source P s) (not (isEmpty x) && not (isEmpty y)) t (withWorkers s (uniteOutputs (s .workers) w v)) k (λ b.
+        workers-kept s (uniteOutputs (s .workers) w v) h (crew-unite ground (s .workers) w v (h .crew-sound) (fits .0) (fits .1) (fits .2)))
+
+-- a close of an empty united bag: the search is finished, and all else stays
+closed-empty : (s : State) (bag : Bag) → isEmpty bag ≡ true → closed s bag ≡ record { labels = s .labels; workers = s .workers; layer = s .layer; finished = true }
+unfolding closed
+closed-empty s bag e = ap (λ (b : Bool). cond b
+  (record { labels = s .labels; workers = s .workers; layer = s .layer; finished = true })
+  (record { labels = s .labels; workers = set (map handedIn (s .workers)) 0 (worker bag emptyBag free); layer = suc (s .layer); finished = false })) e
+
+-- a close of any other: the search isn't finished
+closed-filled : (s : State) (bag : Bag) → isEmpty bag ≡ false → closed s bag .finished ≡ false
+unfolding closed
+closed-filled s bag e = rw e
+
+module _ {g : Graph} {source : ℕ} (ground : Ground g source) {P : ℕ} (some-worker : 1 ≤ P) where
+  -- an effective close
+  closed-after : (s : State) → Sound g source P s → allIdle (s .workers) ≡ true → suc (cost P g (closed s (united (s .workers)))) ≤ cost P g s
+    → (b : Bool) → isEmpty (united (s .workers)) ≡ b → After g source P s (closed s (united (s .workers)))
+  closed-after s h idle less true e =
+      let bag = united (s .workers) in
+      let over : State = record { labels = s .labels; workers = s .workers; layer = s .layer; finished = true } in
+      let same : closed s bag ≡ over = closed-empty s bag e in
+      let sound : Sound g source P over = record { labels-sound = h .labels-sound; crew-sound = h .crew-sound } in
+      record {
+        sound = rw same sound;
+        opens = λ other. absurd (other (ap (λ (t : State). t .layer) same));
+        ended = λ f. rw same (close-certified ground h idle e);
+        cheaper = less;
+      }
+  closed-after s h idle less false e = record {
+    sound = close-sound ground some-worker h idle e;
+    opens = λ other. close-opens ground some-worker h idle e;
+    ended = λ f. absurd (true≢false (sym f ∙ closed-filled s (united (s .workers)) e));
+    cheaper = less;
+  }
+
+  -- an effective event
+  pub act-after : (s t : State) (e : Event) → Sound g source P s → s .finished ≡ false → Fits P e → act g s e ≡ some t → After g source P s t
+  unfolding act
+  act-after s t (Work w) h live below k = kept-after (work-kept ground s t w h below k) live (work-cost ground w h below k)
+  act-after s t (Split w v) h live fits k = kept-after (split-kept ground s t w v h fits k) live (split-cost ground w v h (fits .0) (fits .1) (fits .2) k)
+  act-after s t (Unite w v) h live fits k = kept-after (unite-kept ground s t w v h fits k) live (unite-cost ground w v h (fits .0) (fits .1) (fits .2) k)
+  act-after s t Close h live fits k =
+      let after = closed s (united (s .workers)) in
+      met (After g source P s) (allIdle (s .workers)) t after k (λ idle.
+        closed-after s h idle (close-cost ground some-worker h live (ap (λ (b : Bool). cond b (some after) none) idle)) _ refl)
+  act-after s t Malformed h live fits k = let z : _≡_ {A = ℕ} 0 1 = cc in absurd (omega arith)
+
+  -- a run so far: a sound state, what was paid and what is still to pay, and a certified result once it is finished
+  pub record Good (r : Run) : Type 0 where
+    pub sound : Sound g source P (r .state)
+    pub paid : r .effective + cost P g (r .state) ≤ eventBound g P
+    pub ended : r .state .finished ≡ true → Certified g source (r .state .labels)
+
+  -- a byte: the run stays good, and a layer that opens is opened
+  pub record Next (r q : Run) : Type 0 where
+    pub good : Good q
+    pub opens : (q .state .layer ≡ r .state .layer → ⊥) → LayerOpen g source P (q .state)
+
+  -- a run that stays where it is, but for the bytes used
+  next-same : (r q : Run) → Good r → q .state ≡ r .state → q .effective ≡ r .effective → Next r q
+  next-same r q h same count =
+      let good : Good q = record {
+            sound = rw same (h .sound);
+            paid = omega (arith, h .paid, count, ap (cost P g) same);
+            ended = λ f. rw same (h .ended (sym (ap (λ (s : State). s .finished) same) ∙ f));
+          } in
+      record { good = good; opens = λ other. absurd (other (ap (λ (s : State). s .layer) same)) }
+
+  -- a byte whose event is met or not
+  tally-next : (r : Run) (e : Event) → Good r → r .state .finished ≡ false → Fits P e → (o : Option State) → act g (r .state) e ≡ o → Next r (tally r o)
+  unfolding tally
+  tally-next r e h live fits none k = next-same r (tally r none) h refl refl
+  tally-next r e h live fits (some t) k =
+      let after = act-after (r .state) t e (h .sound) live fits k in
+      let good : Good (tally r (some t)) = record { sound = after .sound; paid = omega (arith, h .paid, after .cheaper); ended = after .ended } in
+      record { good = good; opens = after .opens }
+
+  -- a byte
+  pub step-next : (r : Run) (byte : ℕ) → Good r → within P (eventOf byte) ≡ true → (f : Bool) → r .state .finished ≡ f → Next r (step g r byte)
+  step-next r byte h w true f = rw (step-over g r byte f) (next-same r r h refl refl)
+  step-next r byte h w false f = rw (step-on g r byte f) (tally-next r (eventOf byte) h f (byte-fits P byte (eventOf byte) refl w) _ refl)

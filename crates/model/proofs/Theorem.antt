@@ -1,0 +1,126 @@
+-- Demand 3: for every graph, source, P and schedule that document 01 accepts, finished or spent, one claim about the whole schedule.
+use mathlib.Core.Path.{_≡_, refl, sym, _∙_, ap, subst}
+use mathlib.Core.Bool.{Bool, true, false, true≢false}
+use mathlib.Core.List.{List, [], _∷_, _++_}
+use mathlib.Core.Option.{Option, some}
+use Prim.Native.Nat.{ℕ, zero, suc, _+_, _≤_, _<_}
+use native.Mathlib.Omega.{arith}
+use lib.ListN.{length, getD, take}
+use lib.Seq.{take-suc}
+use Rattle.graph.specs.Graph.{Graph}
+use Rattle.schedule.specs.Events.{eventOf, within}
+use Rattle.schedule.specs.Check.{anyStray}
+use Rattle.schedule.proofs.Bytes.{stray-none}
+use Rattle.model.specs.Paths.{Distance, Labels, distanceOf, Right}
+use Rattle.model.specs.State.{State, openingState, openingLabels}
+use Rattle.model.specs.Play.{Run, step, playFrom, play, stateAt, rounds, eventBound}
+use Rattle.model.specs.Serial.{Serial}
+use Rattle.model.specs.Demand.{Accepted, LayerOpen, Fitting, Demand}
+use Rattle.model.proofs.Sound.{Ground, Sound}
+use Rattle.model.proofs.Cost.{finishCost, cost}
+use Rattle.model.proofs.Rounds.{rounds-count}
+use Rattle.model.proofs.Used.{play-more, told}
+use Rattle.model.proofs.Steps.{Good, Next, step-next}
+use Rattle.model.proofs.Certificate.{certified-right}
+use Rattle.model.proofs.Fits.{sound-fits}
+use Rattle.model.proofs.Opening.{opening-sound, opening-opens}
+use Rattle.model.proofs.SerialRun.{serial-run}
+use Rattle.model.proofs.Costs.{opening-cost}
+
+-- the first bytes of a well-formed schedule are well-formed
+stray-take : (P k : ℕ) (schedule : List ℕ) → anyStray P schedule ≡ false → anyStray P (take k schedule) ≡ false
+unfolding anyStray
+stray-take P zero schedule h = refl
+stray-take P (suc k) [] h = refl
+stray-take P (suc k) (byte ∷ schedule) h = rw (stray-none P byte schedule h .0) (stray-take P k schedule (stray-none P byte schedule h .1))
+
+-- each of its bytes is
+stray-at : (P k : ℕ) (schedule : List ℕ) → anyStray P schedule ≡ false → k < length schedule → within P (eventOf (getD schedule k 0)) ≡ true
+stray-at P k [] h below = absurd (omega arith)
+stray-at P zero (byte ∷ schedule) h below = stray-none P byte schedule h .0
+stray-at P (suc k) (byte ∷ schedule) h below = stray-at P k schedule (stray-none P byte schedule h .1) (omega arith)
+
+module _ {g : Graph} {source : ℕ} (ground : Ground g source) {P : ℕ} (some-worker : 1 ≤ P) where
+  -- a good run stays good
+  play-good : (r : Run) (schedule : List ℕ) → anyStray P schedule ≡ false → Good ground some-worker r → Good ground some-worker (playFrom g r schedule)
+  unfolding playFrom
+  play-good r [] h good = good
+  play-good r (byte ∷ schedule) h good =
+      play-good (step g r byte) schedule (stray-none P byte schedule h .1) (step-next ground some-worker r byte good (stray-none P byte schedule h .0) _ refl .good)
+
+  -- the opening is good
+  opening-good : Good ground some-worker (record { state = openingState (length g) source P; used = 0; effective = 0 })
+  unfolding openingState
+  opening-good = record { sound = opening-sound ground P some-worker; paid = omega (arith, opening-cost ground P some-worker); ended = λ f. absurd (true≢false (sym f)) }
+
+  -- so is every run from there
+  pub run-good : (schedule : List ℕ) → anyStray P schedule ≡ false → Good ground some-worker (play g source P schedule)
+  unfolding play
+  run-good schedule h = play-good _ schedule h opening-good
+
+-- what document 01 accepts is ground to stand on
+accepted-ground : {g : Graph} {source P : ℕ} {schedule : List ℕ} → Accepted g source P schedule → Ground g source
+accepted-ground a = record { below = a .targets-below; starts = a .source-below }
+
+-- while the search isn't finished, something is left to pay: its close
+cost-live : (P : ℕ) (g : Graph) (s : State) → s .finished ≡ false → 1 ≤ cost P g s
+unfolding cost
+cost-live P g s live = omega (arith, ap finishCost live)
+
+-- no byte played is the opening
+state-start : (g : Graph) (source P : ℕ) (schedule : List ℕ) → stateAt g source P schedule 0 ≡ openingState (length g) source P
+unfolding stateAt play playFrom
+state-start g source P schedule = refl
+
+module _ {g : Graph} {source P : ℕ} {schedule : List ℕ} (a : Accepted g source P schedule) where
+  -- the run after k bytes is good
+  good-at : (k : ℕ) → Good (accepted-ground a) (a .some-worker) (play g source P (take k schedule))
+  good-at k = run-good (accepted-ground a) (a .some-worker) (take k schedule) (stray-take P k schedule (a .formed))
+
+  -- and so is the whole run
+  good-run : Good (accepted-ground a) (a .some-worker) (play g source P schedule)
+  good-run = run-good (accepted-ground a) (a .some-worker) schedule (a .formed)
+
+  -- a close that raises d opens a layer
+  layer-opens : (k : ℕ) → k < length schedule → (stateAt g source P schedule (suc k) .layer ≡ stateAt g source P schedule k .layer → ⊥)
+    → LayerOpen g source P (stateAt g source P schedule (suc k))
+  unfolding stateAt
+  layer-opens k below other =
+      let more = play-more g source P schedule k below in
+      let next = step-next (accepted-ground a) (a .some-worker) (play g source P (take k schedule)) (getD schedule k 0) (good-at k) (stray-at P k schedule (a .formed) below) _ refl in
+      subst (λ (r : Run). LayerOpen g source P (r .state)) (sym more) (next .opens (λ same. other (ap (λ (r : Run). r .state .layer) more ∙ same)))
+
+  -- a search that isn't finished has paid less than the bound
+  not-finished : play g source P schedule .state .finished ≡ false → play g source P schedule .effective < eventBound g P
+  not-finished live = omega (arith, good-run .paid, cost-live P g (play g source P schedule .state) live)
+
+  -- .. and has no more rounds than effective events
+  rounds-run : play g source P schedule .state .finished ≡ false → rounds P schedule ≤ play g source P schedule .effective
+  unfolding play
+  rounds-run live =
+      let opening : Run = record { state = openingState (length g) source P; used = 0; effective = 0 } in
+      let crew = opening-sound (accepted-ground a) P (a .some-worker) .crew-sound .crew in
+      omega (arith, rounds-count g P opening schedule (a .some-worker) (a .few-workers) crew live)
+
+  -- that many rounds finish
+  finishes : (f : Bool) → play g source P schedule .state .finished ≡ f → eventBound g P ≤ rounds P schedule → f ≡ true
+  finishes true e h = refl
+  finishes false e h = absurd (omega (arith, not-finished e, rounds-run e))
+
+  -- demand 3, whole
+  pub demand : Demand g source P schedule
+  unfolding stateAt
+  demand = record {
+    first-layer = rw (state-start g source P schedule) (opening-opens (accepted-ground a) P (a .some-worker));
+    each-layer = layer-opens;
+    final = λ k v d e. good-at k .sound .labels-sound .written v d e;
+    bounded = omega (arith, good-run .paid);
+    below = not-finished;
+    enough-rounds = λ h. finishes _ refl h;
+    right-result = λ f. certified-right (accepted-ground a) (good-run .ended f);
+    link-by-link = λ f. serial-run (accepted-ground a) (good-run .ended f) (sound-fits (accepted-ground a) (a .few-workers) (good-run .sound) .distances-below);
+    counted = told g source P schedule .counted;
+    used-spent = told g source P schedule .spent;
+    used-finished = λ f. let last = told g source P schedule .ended f in (last .place, last .used, last .before, last .after);
+    fitting = λ k. sound-fits (accepted-ground a) (a .few-workers) (good-at k .sound);
+  }

@@ -1,0 +1,84 @@
+-- Which bytes are used, and that the effective count is the number of those whose condition was met at their turn.
+use mathlib.Core.Path.{_≡_, refl, sym, _∙_, ap, subst}
+use mathlib.Core.Bool.{Bool, true, false, true≢false}
+use mathlib.Core.List.{List, [], _∷_, _++_}
+use mathlib.Core.Option.{Option, none, some}
+use Prim.Native.Nat.{ℕ, zero, suc, _+_, _≤_, _<_}
+use native.Mathlib.Nat.{zero-add, add-zero, suc-add, add-suc}
+use native.Mathlib.Omega.{arith}
+use lib.ListN.{length, getD, take}
+use lib.Seq.{take-suc, take-length}
+use Rattle.lists.specs.Lists.{numbersFrom, sumOf}
+use Rattle.lists.proofs.Sums.{sum-append}
+use Rattle.lists.proofs.Tests.{range-append}
+use Rattle.graph.specs.Graph.{Graph}
+use Rattle.schedule.specs.Events.{eventOf}
+use Rattle.model.specs.State.{State, openingState}
+use Rattle.model.specs.Table.{act}
+use Rattle.model.specs.Play.{Run, tally, step, playFrom, play, stateAt, metOne, metAt}
+use Rattle.model.proofs.Rounds.{step-over, step-on, play-append}
+
+-- a sum over one number more
+sum-last : (f : ℕ → ℕ) (a k : ℕ) → sumOf f (numbersFrom a (suc k)) ≡ sumOf f (numbersFrom a k) + f (a + k)
+unfolding sumOf numbersFrom
+sum-last f a zero = rw (add-zero a) (omega arith)
+sum-last f a (suc k) = rw (add-suc a k, ← (suc-add a k)) (omega (arith, sum-last f (suc a) k))
+
+module _ (g : Graph) (source P : ℕ) (schedule : List ℕ) where
+  -- one more byte is one more step
+  pub play-more : (k : ℕ) → k < length schedule → play g source P (take (suc k) schedule) ≡ step g (play g source P (take k schedule)) (getD schedule k 0)
+  unfolding play playFrom
+  play-more k below = rw (take-suc schedule k 0 below) (play-append g _ (take k schedule) (getD schedule k 0 ∷ []))
+
+  -- the byte that finished the search
+  pub record Finisher (r : Run) : Type 0 where
+    pub place : ℕ
+    pub used : r .used ≡ suc place
+    pub before : stateAt g source P schedule place .finished ≡ false
+    pub after : stateAt g source P schedule (suc place) .finished ≡ true
+
+  -- what is told of a run after k bytes
+  pub record Told (k : ℕ) (r : Run) : Type 0 where
+    pub counted : r .effective ≡ sumOf (metAt g source P schedule) (numbersFrom 0 (r .used))
+    pub spent : r .state .finished ≡ false → r .used ≡ k
+    pub ended : r .state .finished ≡ true → Finisher r
+
+  -- at the start
+  told-start : Told 0 (play g source P [])
+  unfolding play playFrom openingState numbersFrom sumOf
+  told-start = record { counted = refl; spent = λ f. refl; ended = λ f. absurd (true≢false (sym f)) }
+
+  -- a byte's tally
+  tally-counts : (r : Run) (o : Option State) → (tally r o .used ≡ suc (r .used)) × (tally r o .effective ≡ r .effective + metOne o)
+  unfolding tally
+  tally-counts r none = (refl, omega arith)
+  tally-counts r (some s) = (refl, omega arith)
+
+  -- a byte more
+  told-more : (k : ℕ) → k < length schedule → (f : Bool) → play g source P (take k schedule) .state .finished ≡ f
+    → Told k (play g source P (take k schedule)) → Told (suc k) (play g source P (take (suc k) schedule))
+  unfolding stateAt metAt
+  told-more k below true e t =
+      let same = play-more k below ∙ step-over g (play g source P (take k schedule)) (getD schedule k 0) e in
+      subst (Told (suc k)) (sym same) (record { counted = t .counted; spent = λ f. absurd (true≢false (sym e ∙ f)); ended = t .ended })
+  told-more k below false e t =
+      let r = play g source P (take k schedule) in
+      let q = play g source P (take (suc k) schedule) in
+      let o = act g (r .state) (eventOf (getD schedule k 0)) in
+      let same : q ≡ tally r o = play-more k below ∙ step-on g r (getD schedule k 0) e in
+      let used : q .used ≡ suc k = ap (λ (x : Run). x .used) same ∙ tally-counts r o .0 ∙ ap suc (t .spent e) in
+      let met : q .effective ≡ r .effective + metAt g source P schedule k = ap (λ (x : Run). x .effective) same ∙ tally-counts r o .1 in
+      record {
+        counted = rw used (omega (arith, met, t .counted, ap (λ (u : ℕ). sumOf (metAt g source P schedule) (numbersFrom 0 u)) (t .spent e), rw (zero-add k) at (sum-last (metAt g source P schedule) 0 k)));
+        spent = λ f. used;
+        ended = λ f. record { place = k; used = used; before = e; after = f };
+      }
+
+  -- after every number of bytes
+  told-at : (k : ℕ) → k ≤ length schedule → Told k (play g source P (take k schedule))
+  told-at zero below = told-start
+  told-at (suc k) below = told-more k (omega arith) _ refl (told-at k (omega arith))
+
+  -- and so at the end
+  pub told : Told (length schedule) (play g source P schedule)
+  told = rw (take-length schedule) at (told-at (length schedule) (omega arith))

@@ -1,0 +1,76 @@
+-- Demand 3, as one claim about a whole schedule: what is claimed of a graph, a source, P workers and a schedule.
+use mathlib.Core.Path.{_≡_}
+use mathlib.Core.Bool.{Bool, true, false}
+use mathlib.Core.List.{List}
+use mathlib.Core.Option.{Option, none, some}
+use Prim.Native.Nat.{ℕ, suc, _+_, _*_, _≤_, _<_}
+use lib.ListN.{length, getD}
+use Rattle.numbers.specs.Numbers.{maxVertices, maxWorkers}
+use Rattle.lists.specs.Lists.{numbersFrom, sumOf, reaches}
+use Rattle.graph.specs.Graph.{Graph, targetsOf}
+use Rattle.pennant.specs.Pennant.{gap}
+use Rattle.pennant.specs.Bag.{Bag, slotCount, isEmpty, isGap}
+use Rattle.pennant.specs.Held.{size, copies}
+use Rattle.schedule.specs.Check.{anyStray}
+use Rattle.model.specs.Paths.{Distance, Labels, distanceOf, parentOf, Right}
+use Rattle.model.specs.State.{free, Worker, State, workerAt, openingLabels}
+use Rattle.model.specs.Play.{play, stateAt, metAt, rounds, eventBound}
+use Rattle.model.specs.Serial.{Serial}
+
+-- what is asked: targets and source below n, "P 1 to 8", and a schedule of well-formed bytes; no more than acceptance by document 01
+pub record Accepted (g : Graph) (source P : ℕ) (schedule : List ℕ) : Type 0 where
+  pub targets-below : reaches (length g) (targetsOf g) ≡ false
+  pub source-below : source < length g
+  pub some-worker : 1 ≤ P
+  pub few-workers : P ≤ maxWorkers
+  pub formed : anyStray P schedule ≡ false
+
+-- "it then holds what worker 0's input bag holds, and all other bags are empty"; "exactly the vertices of that distance, each 1 to P times"
+pub record LayerOpen (g : Graph) (source P : ℕ) (s : State) : Type 0 where
+  pub every : (v : ℕ) → Distance g source v (s .layer) → 1 ≤ copies v (workerAt (s .workers) 0 .input)
+  pub no-other : (v : ℕ) → 1 ≤ copies v (workerAt (s .workers) 0 .input) → Distance g source v (s .layer)
+  pub at-most : (v : ℕ) → copies v (workerAt (s .workers) 0 .input) ≤ P
+  pub inputs-empty : (w : ℕ) → 0 < w → isEmpty (workerAt (s .workers) w .input) ≡ true
+  pub outputs-empty : (w : ℕ) → isEmpty (workerAt (s .workers) w .output) ≡ true
+  pub all-free : (w : ℕ) → workerAt (s .workers) w .phase ≡ free
+
+-- how many numbers all bags hold together
+unfoldable pub held : List Worker → ℕ
+held workers = sumOf (λ (w : Worker). size (w .input) + size (w .output)) workers
+
+-- what holds at every moment, for the engine's lists: no more numbers than nodes, 16 slots are enough, distances and parents are below n
+pub record Fitting (g : Graph) (P : ℕ) (s : State) : Type 0 where
+  pub all-held : held (s .workers) ≤ P * length g
+  pub inputs-low : length g ≤ maxVertices → (w k : ℕ) → slotCount ≤ k → isGap (getD (workerAt (s .workers) w .input) k gap) ≡ true
+  pub outputs-low : length g ≤ maxVertices → (w k : ℕ) → slotCount ≤ k → isGap (getD (workerAt (s .workers) w .output) k gap) ≡ true
+  pub distances-below : (v d : ℕ) → distanceOf (s .labels) v ≡ some d → d < length g
+  pub parents-below : (v p : ℕ) → parentOf (s .labels) v ≡ some p → p < length g
+  pub layer-below : s .layer < length g
+
+-- the claim, over the places 0, 1, .. of the one schedule: the state after k bytes is `stateAt g source P schedule k`
+pub record Demand (g : Graph) (source P : ℕ) (schedule : List ℕ) : Type 0 where
+  -- (a) "each layer opens with exactly the vertices of that distance": at the start ..
+  pub first-layer : LayerOpen g source P (stateAt g source P schedule 0)
+  -- .. "and at each close that raises d"
+  pub each-layer : (k : ℕ) → k < length schedule → (stateAt g source P schedule (suc k) .layer ≡ stateAt g source P schedule k .layer → ⊥)
+    → LayerOpen g source P (stateAt g source P schedule (suc k))
+  -- (b) "Written distances are final at any moment of a run."
+  pub final : (k v d : ℕ) → distanceOf (stateAt g source P schedule k .labels) v ≡ some d → Distance g source v d
+  -- (c) "Their count is at most P × (6 × n + m) + n" ..
+  pub bounded : play g source P schedule .effective ≤ eventBound g P
+  -- .. and below it while the search isn't finished
+  pub below : play g source P schedule .state .finished ≡ false → play g source P schedule .effective < eventBound g P
+  -- (d) "that many full rounds always finish"
+  pub enough-rounds : eventBound g P ≤ rounds P schedule → play g source P schedule .state .finished ≡ true
+  -- (e) "Distances of a finished search are those of the graph"
+  pub right-result : play g source P schedule .state .finished ≡ true → Right g source (play g source P schedule .state .labels)
+  -- (f) "every finished run equals a link-by-link run in some order of each layer's links"
+  pub link-by-link : play g source P schedule .state .finished ≡ true → Serial g 0 (openingLabels (length g) source) (play g source P schedule .state .labels)
+  -- "The effective events reported are the number of used bytes whose condition, by that table, was met at their turn."
+  pub counted : play g source P schedule .effective ≡ sumOf (metAt g source P schedule) (numbersFrom 0 (play g source P schedule .used))
+  -- "Events used are the bytes up to and with the finishing one, with 21 all of them."
+  pub used-spent : play g source P schedule .state .finished ≡ false → play g source P schedule .used ≡ length schedule
+  pub used-finished : play g source P schedule .state .finished ≡ true → (k : ℕ) × (play g source P schedule .used ≡ suc k)
+    × (stateAt g source P schedule k .finished ≡ false) × (stateAt g source P schedule (suc k) .finished ≡ true)
+  -- for the engine's lists, at every moment
+  pub fitting : (k : ℕ) → Fitting g P (stateAt g source P schedule k)

@@ -1,0 +1,9 @@
+-- Distances of a graph, the event table and its play, the link-by-link run, the whole call's outcome, and what demand 3 claims.
+pub mod Paths
+pub mod State
+pub mod Table
+pub mod Play
+pub mod Serial
+pub mod Call
+pub mod Demand
+pub mod Bench

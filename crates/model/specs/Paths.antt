@@ -1,0 +1,74 @@
+-- Distances of a graph by its paths alone, and what it takes for distances and parents to be right.
+use mathlib.Core.Path.{_≡_}
+use mathlib.Core.Bool.{Bool, true, false}
+use mathlib.Core.List.{List}
+use mathlib.Core.Option.{Option, none, some}
+use Prim.Native.Nat.{ℕ, suc, _≤_, _<_}
+use lib.ListN.{length, getD}
+use Rattle.graph.specs.Graph.{Graph, edges}
+
+-- the target of edge i of u
+abbrev pub target : Graph → ℕ → ℕ → ℕ
+target g u i = getD (edges g u) i 0
+
+-- a link from u to t: one occurrence, by its place in u's row ("Repeated links and links to oneself are allowed")
+pub record Joins (g : Graph) (u t : ℕ) : Type 0 where
+  pub place : ℕ
+  pub there : place < length (edges g u)
+  pub leads : target g u place ≡ t
+
+-- a path of so many links from s
+pub data Walk (g : Graph) (s : ℕ) : ℕ → ℕ → Type 0 where
+  stay : Walk g s s 0
+  onward : {u t k : ℕ} → Walk g s u k → Joins g u t → Walk g s t (suc k)
+
+-- "shortest path from the source has d links"
+pub record Distance (g : Graph) (s t d : ℕ) : Type 0 where
+  pub walk : Walk g s t d
+  pub least : (k : ℕ) → Walk g s t k → d ≤ k
+
+-- distances and parents of all vertices (document 01's hop map); `none` is document 01's unset
+pub record Labels : Type 0 where
+  pub distances : List (Option ℕ)
+  pub parents : List (Option ℕ)
+
+-- the distance of v
+abbrev pub distanceOf : Labels → ℕ → Option ℕ
+distanceOf x v = getD (x .distances) v none
+
+-- the parent of v
+abbrev pub parentOf : Labels → ℕ → Option ℕ
+parentOf x v = getD (x .parents) v none
+
+-- whether it is set
+abbrev pub isSet : Option ℕ → Bool
+isSet none = false
+isSet (some x) = true
+
+-- p is nearer than v by one link: "has a link to its device and a distance one less"
+pub record Nearer (g : Graph) (x : Labels) (p v : ℕ) : Type 0 where
+  pub link : Joins g p v
+  pub depth : ℕ
+  pub here : distanceOf x p ≡ some depth
+  pub there : distanceOf x v ≡ some (suc depth)
+
+-- the checker's condition: "distances are right for every device, the source is its own parent, unreached devices have an unset parent, and
+-- each other parent has a link to its device and a distance one less"
+pub record Right (g : Graph) (s : ℕ) (x : Labels) : Type 0 where
+  pub distances-all : length (x .distances) ≡ length g
+  pub parents-all : length (x .parents) ≡ length g
+  pub shortest : (v d : ℕ) → v < length g → distanceOf x v ≡ some d → Distance g s v d
+  pub unreached : (v k : ℕ) → v < length g → distanceOf x v ≡ none → Walk g s v k → ⊥
+  pub own-parent : parentOf x s ≡ some s
+  pub no-parent : (v : ℕ) → v < length g → distanceOf x v ≡ none → parentOf x v ≡ none
+  pub parent : (v : ℕ) → v < length g → (v ≡ s → ⊥) → isSet (distanceOf x v) ≡ true → (p : ℕ) × (parentOf x v ≡ some p) × Nearer g x p v
+
+-- the same, link by link, with no path in it: what a checker can test
+pub record Certified (g : Graph) (s : ℕ) (x : Labels) : Type 0 where
+  pub distances-all : length (x .distances) ≡ length g
+  pub parents-all : length (x .parents) ≡ length g
+  pub source : distanceOf x s ≡ some 0
+  pub own-parent : parentOf x s ≡ some s
+  pub onward : (u d i : ℕ) → u < length g → distanceOf x u ≡ some d → i < length (edges g u) → (k : ℕ) × (distanceOf x (target g u i) ≡ some k) × (k ≤ suc d)
+  pub no-parent : (v : ℕ) → v < length g → distanceOf x v ≡ none → parentOf x v ≡ none
+  pub parent : (v : ℕ) → v < length g → (v ≡ s → ⊥) → isSet (distanceOf x v) ≡ true → (p : ℕ) × (parentOf x v ≡ some p) × Nearer g x p v

@@ -1,0 +1,96 @@
+-- The event table: for each event, `none` where its condition isn't met, else the state that it leaves.
+use mathlib.Core.Bool.{Bool, true, false, cond, not, _&&_}
+use mathlib.Core.List.{List, [], _∷_, map, foldl}
+use mathlib.Core.Option.{Option, none, some}
+use Prim.Native.Nat.{ℕ, suc}
+use lib.Dec.{ltb}
+use lib.ListN.{length, set}
+use Rattle.graph.specs.Graph.{Graph, edges}
+use Rattle.pennant.specs.Bag.{Bag, emptyBag, bagInsert, bagUnion, splitFirst, splitSecond, takeRest, takenNumber, isEmpty, atLeastTwo}
+use Rattle.schedule.specs.declared.Event.{Event}
+use Rattle.schedule.specs.declared.Event.the-variants.{Work, Split, Unite, Close, Malformed}
+use Rattle.model.specs.Paths.{target, Labels, distanceOf, isSet}
+use Rattle.model.specs.State.{Phase, free, holding, inHand, marked, named, Worker, worker, State, workerAt}
+
+-- at link i of u: "A device whose links are used up frees its worker."
+unfoldable pub holdAt : Graph → ℕ → ℕ → Phase
+holdAt g u i = cond (ltb i (length (edges g u))) (holding u i) free
+
+-- "it looks at the next target t; if t's distance is unset it has t in hand, else it passes on"
+unfoldable pub look : Graph → Labels → ℕ → ℕ → Phase
+look g x u i = cond (isSet (distanceOf x (target g u i))) (holdAt g u (suc i)) (inHand u i (target g u i))
+
+-- "mark (distance d + 1)"
+unfoldable pub mark : ℕ → ℕ → Labels → Labels
+mark d t x = record { distances = set (x .distances) t (some (suc d)); parents = x .parents }
+
+-- "name (parent u)"
+unfoldable pub name : ℕ → ℕ → Labels → Labels
+name u t x = record { distances = x .distances; parents = set (x .parents) t (some u) }
+
+-- "worker w moves once. Free: it takes from its input bag, if that isn't empty. Holding u: it looks at the next target t .. With t in hand,
+-- three more moves: mark, name, stow (insert t into its output bag, pass on)": the worker and the labels after it
+unfoldable pub move : Graph → ℕ → Labels → Bag → Bag → Phase → Option (Worker × Labels)
+move g d x input output free = cond (isEmpty input) none (some (worker (takeRest input) output (holdAt g (takenNumber input) 0), x))
+move g d x input output (holding u i) = some (worker input output (look g x u i), x)
+move g d x input output (inHand u i t) = some (worker input output (marked u i t), mark d t x)
+move g d x input output (marked u i t) = some (worker input output (named u i t), name u t x)
+move g d x input output (named u i t) = some (worker input (bagInsert t output) (holdAt g u (suc i)), x)
+
+-- a move put into the state
+unfoldable pub moved : State → ℕ → Option (Worker × Labels) → Option State
+moved s w none = none
+moved s w (some m) = some (record { labels = m .1; workers = set (s .workers) w (m .0); layer = s .layer; finished = s .finished })
+
+-- the state with other workers
+abbrev pub withWorkers : State → List Worker → State
+withWorkers s workers = record { labels = s .labels; workers = workers; layer = s .layer; finished = s .finished }
+
+-- "w .. gets the second bag of a split of v's input bag"
+unfoldable pub splitInputs : List Worker → ℕ → ℕ → List Worker
+splitInputs workers w v =
+    let x = workerAt workers w in
+    let y = workerAt workers v in
+    set (set workers v (worker (splitFirst (y .input)) (y .output) (y .phase))) w (worker (splitSecond (y .input)) (x .output) (x .phase))
+
+-- "w's output bag is united into v's and left empty"
+unfoldable pub uniteOutputs : List Worker → ℕ → ℕ → List Worker
+uniteOutputs workers w v =
+    let x = workerAt workers w in
+    let y = workerAt workers v in
+    set (set workers v (worker (y .input) (bagUnion (y .output) (x .output)) (y .phase))) w (worker (x .input) emptyBag (x .phase))
+
+-- whether a worker is free
+unfoldable pub isFree : Phase → Bool
+isFree free = true
+isFree (holding u i) = false
+isFree (inHand u i t) = false
+isFree (marked u i t) = false
+isFree (named u i t) = false
+
+-- "all workers are free and all input bags empty"
+unfoldable pub allIdle : List Worker → Bool
+allIdle [] = true
+allIdle (w ∷ workers) = isFree (w .phase) && isEmpty (w .input) && allIdle workers
+
+-- "output bags 0 to P - 1 are united in that order into worker 0's input bag"
+unfoldable pub united : List Worker → Bag
+united workers = foldl bagUnion (workerAt workers 0 .input) (map (λ (w : Worker). w .output) workers)
+
+-- a worker whose output bag has been united
+abbrev pub handedIn : Worker → Worker
+handedIn w = worker (w .input) emptyBag (w .phase)
+
+-- ".. and d grows by 1. If the united bag is empty, the search is finished instead and d stays."
+unfoldable pub closed : State → Bag → State
+closed s bag = cond (isEmpty bag)
+    (record { labels = s .labels; workers = s .workers; layer = s .layer; finished = true })
+    (record { labels = s .labels; workers = set (map handedIn (s .workers)) 0 (worker bag emptyBag free); layer = suc (s .layer); finished = false })
+
+-- the table: "An event whose condition isn't met changes nothing. The others are effective."
+unfoldable pub act : Graph → State → Event → Option State
+act g s (Work w) = moved s w (move g (s .layer) (s .labels) (workerAt (s .workers) w .input) (workerAt (s .workers) w .output) (workerAt (s .workers) w .phase))
+act g s (Split w v) = cond (isEmpty (workerAt (s .workers) w .input) && atLeastTwo (workerAt (s .workers) v .input)) (some (withWorkers s (splitInputs (s .workers) w v))) none
+act g s (Unite w v) = cond (not (isEmpty (workerAt (s .workers) w .output)) && not (isEmpty (workerAt (s .workers) v .output))) (some (withWorkers s (uniteOutputs (s .workers) w v))) none
+act g s Close = cond (allIdle (s .workers)) (some (closed s (united (s .workers)))) none
+act g s Malformed = none
