@@ -1,5 +1,6 @@
 -- Facts about specs/Lists.antt that several crates' proofs cite.
 pub mod Chains
+pub mod Members
 pub mod Or
 pub mod Overlay
 pub mod Parts

@@ -1,8 +1,11 @@
--- Facts about what is left of a list after its first places, where the toolchain's libraries have them the other way round.
-use mathlib.Core.Path.{_≡_}
+-- Facts about what is left of a list after its first places, where the toolchain's libraries have them the other way round; and two about what is
+-- read at a place.
+use mathlib.Core.Path.{_≡_, refl}
 use mathlib.Core.List.{List, [], _∷_, nil≢cons, cons≢nil, head-eq-of-cons-eq, tail-eq-of-cons-eq}
+use mathlib.Core.Option.{Option, none, some, Option·none-ne-some}
 use Prim.Native.Nat.{ℕ, zero, suc, _≤_, _<_, zero-le, suc-le-suc}
-use lib.ListN.{length, getD, drop}
+use native.Mathlib.Omega.{arith}
+use lib.ListN.{length, getD, drop, replicate}
 
 -- what stands at place i: the rest of the list from there on begins with x
 pub record Next (list : List ℕ) (i x : ℕ) (rest : List ℕ) : Type 0 where
@@ -23,3 +26,15 @@ pub drop-done : (list : List ℕ) (i : ℕ) → drop i list ≡ [] → length li
 drop-done [] i e = zero-le
 drop-done (x ∷ list) zero e = absurd (cons≢nil e)
 drop-done (x ∷ list) (suc i) e = suc-le-suc (drop-done list i e)
+
+-- a place that is set is one of the list
+pub place-below : {A : Type 0} (l : List (Option A)) (i : ℕ) {a : A} → getD l i none ≡ some a → i < length l
+place-below [] i e = absurd (Option·none-ne-some _ e)
+place-below (x ∷ l) zero e = omega arith
+place-below (x ∷ l) (suc i) e = omega (arith, place-below l i e)
+
+-- what is repeated stands everywhere, past the end too where it is the default
+pub getD-repeated : {A : Type 0} (n i : ℕ) (a : A) → getD (replicate n a) i a ≡ a
+getD-repeated zero i a = refl
+getD-repeated (suc n) zero a = refl
+getD-repeated (suc n) (suc i) a = getD-repeated n i a

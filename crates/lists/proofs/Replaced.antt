@@ -1,10 +1,13 @@
 -- Lists with elements replaced, and functions at each element.
 use Prim.Native.Nat.{ℕ, zero, suc, _<_}
 use native.Mathlib.Omega.{arith}
-use mathlib.Core.Path.{_≡_, refl}
+use mathlib.Core.Path.{_≡_, refl, sym, _∙_}
+use mathlib.Core.Bool.{Bool, true, false}
 use mathlib.Core.List.{List, [], _∷_, map}
 use lib.ListN.{length, getD, drop, set}
-use lib.Seq.{set-set, set-comm}
+use lib.Dec.{eqb}
+use lib.Seq.{set-set, set-comm, getD-set-same, getD-set-other}
+use borrow.Author.Tests.{eqb-true, eqb-false}
 
 -- a function at each element, one of them replaced
 pub map-set : {A B : Type 0} (f : A → B) (l : List A) (i : ℕ) (y : A) → map f (set l i y) ≡ set (map f l) i (f y)
@@ -26,3 +29,20 @@ pub drop-set : {A : Type 0} (l : List A) (i : ℕ) (y : A) → i < length l → 
 drop-set [] i y h = absurd (omega arith)
 drop-set (x ∷ l) zero y h = refl
 drop-set (x ∷ l) (suc i) y h = drop-set l i y (omega arith)
+
+-- what holds of each element and of a new one holds of each element where the new one replaces one of them
+pub each-set : {A : Type 0} (Q : A → Type 0) (l : List A) (i : ℕ) (y d : A) → Q y → ((j : ℕ) → Q (getD l j d)) → (j : ℕ) → Q (getD (set l i y) j d)
+each-set Q [] i y d new old j = old j
+each-set Q (x ∷ l) zero y d new old zero = new
+each-set Q (x ∷ l) zero y d new old (suc j) = old (suc j)
+each-set Q (x ∷ l) (suc i) y d new old zero = old zero
+each-set Q (x ∷ l) (suc i) y d new old (suc j) = each-set Q l i y d new (λ k. old (suc k)) j
+
+-- a list with one element replaced holds at a place the new element, or what it held before
+pub set-cases : {A R : Type 0} (l : List A) (i j : ℕ) (y d x : A) → i < length l → getD (set l i y) j d ≡ x
+    → (j ≡ i → y ≡ x → R) → ((j ≡ i → ⊥) → getD l j d ≡ x → R) → R
+set-cases {R = R} l i j y d x h e here there = go (eqb j i) refl
+  where
+    go : (b : Bool) → eqb j i ≡ b → R
+    go true q = let same = eqb-true j i q in here same (sym (getD-set-same l i y d h) ∙ (rw same at e))
+    go false q = there (eqb-false j i q) (sym (getD-set-other l i j y d (eqb-false j i q)) ∙ e)

@@ -13,6 +13,11 @@ use borrow.Author.Tests.{ltb-false, leb-false, eqb-true, eqb-false, not-false, l
 use Rattle.lists.specs.Lists.{numbersFrom, sumsFrom, elem, repeats, lacks, reaches, fallsFrom}
 use Rattle.lists.proofs.Or.{or-none, none-or, or-second, not-so}
 
+-- a test counts no more than what is at least 1 where it holds
+pub test-within : (b : Bool) (n : ℕ) → (b ≡ true → 1 ≤ n) → cond b 1 0 ≤ n
+test-within true n h = h refl
+test-within false n h = omega arith
+
 -- A test of lists laid end to end.
 
 pub elem-append : (x : ℕ) (a b : List ℕ) → elem x (a ++ b) ≡ (elem x a || elem x b)
@@ -24,6 +29,14 @@ pub reaches-append : (limit : ℕ) (a b : List ℕ) → reaches limit (a ++ b) �
 unfolding reaches
 reaches-append limit [] b = refl
 reaches-append limit (x ∷ a) b = rw (reaches-append limit a b) (sym (or-assoc (leb limit x) (reaches limit a) (reaches limit b)))
+
+-- a row reaches no limit that the rows laid end to end do not reach
+pub reaches-row : (limit : ℕ) (rows : List (List ℕ)) (u : ℕ) → reaches limit (flatten rows) ≡ false → reaches limit (getD rows u []) ≡ false
+unfolding reaches flatten
+reaches-row limit [] u h = refl
+reaches-row limit (row ∷ rows) zero h = or-none (reaches limit row) (reaches limit (flatten rows)) (rw (reaches-append limit row (flatten rows)) at h) .0
+reaches-row limit (row ∷ rows) (suc u) h =
+    reaches-row limit rows u (or-none (reaches limit row) (reaches limit (flatten rows)) (rw (reaches-append limit row (flatten rows)) at h) .1)
 
 -- Membership.
 

@@ -1,6 +1,6 @@
 -- The bench table holds: every case's outcome is the one expected, computed by the very definitions that the contracts cite.
 use mathlib.Core.Path.{_≡_, refl}
-use mathlib.Core.List.{List, map, flatten}
+use mathlib.Core.List.{map, flatten}
 use Rattle.numbers.specs.Refusals.{first}
 use Rattle.lists.specs.Lists.{overlay, chainFrom, numbersFrom, sumsFrom, elem, repeats, lacks, reaches, sumOf}
 use Rattle.graph.specs.Graph.{edges, offsetsOf, targetsOf}

@@ -17,7 +17,6 @@ use Rattle.graph.specs.Read.{headerRefusals, scanRefusals, chainRefusals}
 use Rattle.graph.proofs.FileLists.{length-graph}
 use Rattle.graph.proofs.WellFormed.{scan-bounded, graph-below, positive-header, positive-scan}
 use Rattle.schedule.specs.Check.{anyStray, scheduleRefusals}
-use Rattle.model.specs.Play.{play}
 use Rattle.model.specs.Call.{Lent, lentShort, runOf, inputRefusals, searchRefusals, searchNumber, plays}
 use Rattle.model.specs.Demand.{Accepted, Demand}
 use Rattle.model.proofs.Theorem.{demand}
@@ -51,13 +50,13 @@ positive-schedule schedule P = omega arith
 
 -- all numbers of the input's tests are positive, and below 21
 input-numbers : (file : List ℕ) (source P : ℕ) (schedule : List ℕ) (lent : Lent)
-  → Positive (inputRefusals file source P schedule lent) × Below unfinished (inputRefusals file source P schedule lent)
+    → Positive (inputRefusals file source P schedule lent) × Below unfinished (inputRefusals file source P schedule lent)
 unfolding inputRefusals headerRefusals scanRefusals scheduleRefusals chainRefusals
 input-numbers file source P schedule lent = omega arith
 
 -- what passes every test on the input is accepted
 pub call-accepted : (file : List ℕ) (source P : ℕ) (schedule : List ℕ) (lent : Lent) → first (inputRefusals file source P schedule lent) ≡ 0
-  → Accepted (graphOf file) source P schedule
+    → Accepted (graphOf file) source P schedule
 unfolding inputRefusals headerRefusals scanRefusals scheduleRefusals
 call-accepted file source P schedule lent e =
     let n = vertexCount file in
@@ -78,12 +77,12 @@ call-accepted file source P schedule lent e =
 
 -- demand 3 of a call whose input passes
 pub call-demand : (file : List ℕ) (source P : ℕ) (schedule : List ℕ) (lent : Lent) → first (inputRefusals file source P schedule lent) ≡ 0
-  → Demand (graphOf file) source P schedule
+    → Demand (graphOf file) source P schedule
 call-demand file source P schedule lent e = demand (call-accepted file source P schedule lent e)
 
 -- such a call answers 0 if its search is finished, else 21
 pub call-number : (file : List ℕ) (source P : ℕ) (schedule : List ℕ) (lent : Lent) → first (inputRefusals file source P schedule lent) ≡ 0
-  → searchNumber file source P schedule lent ≡ cond (runOf file source P schedule .state .finished) success unfinished
+    → searchNumber file source P schedule lent ≡ cond (runOf file source P schedule .state .finished) success unfinished
 unfolding searchNumber searchRefusals first
 call-number file source P schedule lent e =
     first-append (inputRefusals file source P schedule lent) (not (runOf file source P schedule .state .finished) gives unfinished ∷ []) (input-numbers file source P schedule lent .0) e
@@ -100,12 +99,13 @@ between k p q = rw (ne-eqb k 0 (λ e. omega arith), ne-eqb k unfinished (λ e. o
 
 -- a call that answers 0 or 21 has an input that passes
 pub call-passed : (file : List ℕ) (source P : ℕ) (schedule : List ℕ) (lent : Lent) → plays (searchNumber file source P schedule lent) ≡ true
-  → first (inputRefusals file source P schedule lent) ≡ 0
+    → first (inputRefusals file source P schedule lent) ≡ 0
 unfolding searchNumber searchRefusals
 call-passed file source P schedule lent e = go (first input) refl
   where
     input : List Refusal
     input = inputRefusals file source P schedule lent
+
     go : (k : ℕ) → first input ≡ k → first input ≡ 0
     go zero f = f
     go (suc k) f =

@@ -1,23 +1,17 @@
 -- The checker's condition with no path in it is the one with paths: what is certified is right, what is right is certified, and right distances
 -- are the only ones.
 use mathlib.Core.Path.{_≡_, refl, sym, ap, _∙_}
-use mathlib.Core.List.{List, [], _∷_}
 use mathlib.Core.Option.{Option, none, some, Option·none-ne-some, mem-unique}
 use Prim.Native.Nat.{ℕ, zero, suc, _≤_, _<_}
 use native.Mathlib.Decide.{ℕ-discrete}
 use native.Mathlib.Omega.{arith}
-use lib.ListN.{length, getD}
+use lib.ListN.{length}
 use lib.Seq.{ext-getD}
+use Rattle.lists.proofs.Parts.{place-below}
 use Rattle.graph.specs.Graph.{Graph}
 use Rattle.model.specs.Paths.{Walk, stay, onward, Labels, distanceOf, Nearer, Right, Certified}
 use Rattle.model.proofs.Sound.{Ground}
 use Rattle.model.proofs.Walks.{walk-below, distance-unique}
-
--- a label that is set stands within the list
-pub label-below : (l : List (Option ℕ)) (v k : ℕ) → getD l v none ≡ some k → v < length l
-label-below [] v k e = absurd (Option·none-ne-some k e)
-label-below (x ∷ l) zero k e = omega arith
-label-below (x ∷ l) (suc v) k e = omega (arith, label-below l v k e)
 
 -- v is set, to no more than k
 record Within (x : Labels) (v k : ℕ) : Type 0 where
@@ -59,7 +53,7 @@ module _ {g : Graph} {source : ℕ} (ground : Ground g source) where
 
     -- .. a vertex that is set and isn't the source has a nearer one
     certified-nearer : (v d : ℕ) → (v ≡ source → ⊥) → distanceOf x v ≡ some d → (p : ℕ) × Nearer g x p v
-    certified-nearer v d apart e = let n = c .parent v (rw (c .distances-all) at (label-below (x .distances) v d e)) apart (rw e) in (n .0, n .2)
+    certified-nearer v d apart e = let n = c .parent v (rw (c .distances-all) at (place-below (x .distances) v e)) apart (rw e) in (n .0, n .2)
 
     -- .. and a vertex set to d is the end of a path of d links: that of the nearer one and one link more
     certified-walk : (d v : ℕ) → Dec (v ≡ source) → distanceOf x v ≡ some d → Walk g source v d

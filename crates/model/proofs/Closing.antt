@@ -1,73 +1,29 @@
 -- A close, where all workers are free and all input bags empty: the united bag holds the next layer. If it isn't empty, the state that the close
 -- leaves is sound and opens that layer; if it is, the labels are certified.
 use mathlib.Core.Path.{_≡_, refl, sym, _∙_}
-use mathlib.Core.Bool.{Bool, true, false, _&&_, and-eq-true-iff, true≢false}
-use mathlib.Core.List.{List, [], _∷_, map, foldl}
+use mathlib.Core.Bool.{Bool, true, false, true≢false}
+use mathlib.Core.List.{List, map}
 use mathlib.Core.Option.{Option, none, some}
-use Prim.Native.Nat.{ℕ, zero, suc, _+_, _≤_, _<_}
+use Prim.Native.Nat.{ℕ, suc, _≤_, _<_}
 use native.Mathlib.Omega.{arith}
 use lib.Dec.{eqb, leb, ltb}
-use lib.ListN.{length, getD, set, length-map, List·getD-map}
+use lib.ListN.{length, set, length-map, List·getD-map}
 use borrow.Author.Tests.{ltb-true, ltb-false, leb-true, leb-false, eqb-true, eqb-false}
-use Rattle.lists.specs.Lists.{sumOf}
 use Rattle.graph.specs.Graph.{Graph, edges}
-use Rattle.pennant.specs.Bag.{Bag, emptyBag, bagUnion, takenNumber, isEmpty}
-use Rattle.pennant.specs.Held.{weigh, only, copies, Shaped}
-use Rattle.pennant.proofs.Laws.{weigh-union, empty-weighs, taken-held, shaped-empty, shaped-union}
+use Rattle.pennant.specs.Bag.{emptyBag, takenNumber, isEmpty}
+use Rattle.pennant.specs.Held.{only, copies}
+use Rattle.pennant.proofs.Laws.{empty-weighs, taken-held, shaped-empty}
 use Rattle.model.specs.Paths.{target, Walk, stay, onward, Distance, Labels, distanceOf, parentOf, isSet, Certified}
-use Rattle.model.specs.State.{Phase, free, holding, inHand, marked, named, Worker, worker, idleWorker, State, workerAt}
-use Rattle.model.specs.Table.{isFree, allIdle, united, handedIn, closed}
+use Rattle.model.specs.State.{free, Worker, worker, idleWorker, State, workerAt}
+use Rattle.model.specs.Table.{allIdle, united, handedIn, closed}
 use Rattle.model.specs.Demand.{LayerOpen}
 use Rattle.model.proofs.Counts.{setOne, outputs}
 use Rattle.model.proofs.Sound.{Ground, LabelsSound, CrewSound, Sound}
-use Rattle.model.proofs.Walks.{walk-last, distance-unique, distance-source, set-value}
-use Rattle.model.proofs.Fresh.{empty-bag, Idle, spare-idle, no-copies, no-hands, no-namings, no-ats}
+use Rattle.model.proofs.Walks.{walk-last, distance-source}
+use Rattle.model.proofs.LabelFacts.{set-value, one-set, label-is}
+use Rattle.model.proofs.Workers.{empty-bag, weigh-unions, shaped-unions, Idle, idle-each}
+use Rattle.model.proofs.Fresh.{no-copies, no-hands, no-namings, no-ats}
 use Rattle.model.proofs.Fresh.{LayerBag, SpareCrew, fresh-sound, fresh-opens}
-
--- Bags united one after another.
-
-module _ {A : Type 0} (bagOf : A → Bag) where
-  -- they weigh what all of them weigh
-  pub weigh-unions : (f : ℕ → ℕ) (b : Bag) (l : List A)
-      → weigh f (foldl bagUnion b (map bagOf l)) ≡ weigh f b + sumOf (λ (x : A). weigh f (bagOf x)) l
-  unfolding sumOf
-  weigh-unions f b [] = omega arith
-  weigh-unions f b (x ∷ l) = omega (arith, weigh-unions f (bagUnion b (bagOf x)) l, weigh-union f b (bagOf x))
-
-  -- and keep the shape
-  pub shaped-unions : (d : A) (b : Bag) (l : List A) → Shaped b → ((i : ℕ) → Shaped (bagOf (getD l i d))) → Shaped (foldl bagUnion b (map bagOf l))
-  shaped-unions d b [] h each = h
-  shaped-unions d b (x ∷ l) h each = shaped-unions d (bagUnion b (bagOf x)) l (shaped-union b (bagOf x) h (each 0)) (λ i. each (suc i))
-
--- Idle workers.
-
--- a worker that is free
-free-phase : (p : Phase) → isFree p ≡ true → p ≡ free
-unfolding isFree
-free-phase free e = refl
-free-phase (holding u i) e = absurd (true≢false (sym e))
-free-phase (inHand u i t) e = absurd (true≢false (sym e))
-free-phase (marked u i t) e = absurd (true≢false (sym e))
-free-phase (named u i t) e = absurd (true≢false (sym e))
-
--- the first worker is idle and so are the others
-idle-first : (x : Worker) (workers : List Worker) → allIdle (x ∷ workers) ≡ true → Idle x × (allIdle workers ≡ true)
-unfolding allIdle
-idle-first x workers e =
-    let both = and-eq-true-iff (isFree (x .phase) && isEmpty (x .input)) (allIdle workers) .0 e in
-    let first = and-eq-true-iff (isFree (x .phase)) (isEmpty (x .input)) .0 (both .0) in
-    (record { input-empty = first .1; phase-free = free-phase (x .phase) (first .0) }, both .1)
-
--- every worker is idle, and past the last one
-pub idle-each : (workers : List Worker) → allIdle workers ≡ true → (w : ℕ) → Idle (workerAt workers w)
-idle-each [] e w = spare-idle .idle
-idle-each (x ∷ workers) e zero = idle-first x workers e .0
-idle-each (x ∷ workers) e (suc w) = idle-each workers (idle-first x workers e .1) w
-
--- a label that counts as set is set
-one-set : (l : Option ℕ) → 1 ≤ setOne l → isSet l ≡ true
-one-set none h = absurd (omega arith)
-one-set (some k) h = refl
 
 -- The end of a layer: sound labels, and a sound crew that is idle.
 module _ {g : Graph} {source P d : ℕ} {x : Labels} {workers : List Worker}
@@ -75,12 +31,6 @@ module _ {g : Graph} {source P d : ℕ} {x : Labels} {workers : List Worker}
   -- all are free
   all-free : (w : ℕ) → workerAt workers w .phase ≡ free
   all-free w = idle w .phase-free
-
-  -- a vertex that is set has its distance for label
-  label-is : (v k : ℕ) → isSet (distanceOf x v) ≡ true → Distance g source v k → distanceOf x v ≡ some k
-  label-is v k e far =
-      let label = set-value (distanceOf x v) e in
-      rw (distance-unique (l .written v (label .value) (label .is)) far) at (label .is)
 
   -- a path through a vertex that is set
   through : (u k i : ℕ) → distanceOf x u ≡ some k → i < length (edges g u) → Walk g source (target g u i) (suc k)
@@ -112,7 +62,7 @@ module _ {g : Graph} {source P d : ℕ} {x : Labels} {workers : List Worker}
 
   -- every vertex of the next layer has its label
   next-labelled : (v : ℕ) → Distance g source v (suc d) → distanceOf x v ≡ some (suc d)
-  next-labelled v far = label-is v (suc d) (next-set v (suc d) (far .walk) (omega arith)) far
+  next-labelled v far = label-is l v (suc d) (next-set v (suc d) (far .walk) (omega arith)) far
 
   -- every vertex that is set has its parent
   parent-set : (v : ℕ) → isSet (distanceOf x v) ≡ true → 1 ≤ setOne (parentOf x v)
@@ -209,7 +159,7 @@ module _ {g : Graph} {source P d : ℕ} {x : Labels} {workers : List Worker}
   last-certified empty = record {
     distances-all = l .distances-all;
     parents-all = l .parents-all;
-    source = label-is source 0 (l .near source 0 stay (omega arith)) distance-source;
+    source = label-is l source 0 (l .near source 0 stay (omega arith)) distance-source;
     own-parent = l .own-parent;
     onward = λ u k i below e there.
         let label = set-value (distanceOf x (target g u i)) (target-set u k i e (last-layer empty u k e) there) in

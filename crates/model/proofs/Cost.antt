@@ -1,5 +1,5 @@
 -- A potential for the bound: what a state can still cost. It falls with every effective event and is at least 1 while the search isn't finished.
-use mathlib.Core.Bool.{Bool, true, false, cond}
+use mathlib.Core.Bool.{Bool, cond}
 use mathlib.Core.List.{List, [], _∷_}
 use mathlib.Core.Option.{Option, none, some}
 use Prim.Native.Nat.{ℕ, suc, _+_, _*_, _-_}

@@ -1,23 +1,24 @@
 -- Facts for the cost of a state: sums with elements replaced, and what bags, phases and labels cost.
-use mathlib.Core.Path.{_≡_, refl, sym, _∙_}
-use mathlib.Core.Bool.{Bool, true, false, cond, _&&_, and-eq-true-iff, true≢false}
-use mathlib.Core.List.{List, [], _∷_, map, foldl, flatten}
+use mathlib.Core.Path.{_≡_, refl}
+use mathlib.Core.Bool.{Bool, true, false, cond}
+use mathlib.Core.List.{List, [], _∷_, flatten}
 use mathlib.Core.Option.{Option, none, some}
 use Prim.Native.Nat.{ℕ, zero, suc, _+_, _*_, _-_, _≤_, _<_}
 use native.Mathlib.Omega.{arith}
-use lib.Dec.{eqb, ltb}
+use lib.Dec.{eqb}
 use lib.ListN.{length, getD, set, replicate, length-append, length-replicate, getD-replicate}
-use lib.Seq.{lt-length-set, getD-set-same, getD-set-other}
-use borrow.Author.Tests.{ltb-false, eqb-true, eqb-false, eq-eqb}
+use lib.Seq.{getD-set-same, getD-set-other}
+use borrow.Author.Tests.{eqb-true, eqb-false}
 use Rattle.lists.specs.Lists.{sumOf}
-use Rattle.lists.proofs.Sums.{sum-set}
+use Rattle.lists.proofs.Sums.{sum-set, sum-two, sum-most}
 use Rattle.graph.specs.Graph.{Graph, edges}
-use Rattle.pennant.specs.Bag.{Bag, emptyBag, bagUnion, isEmpty}
+use Rattle.pennant.specs.Bag.{Bag, emptyBag, isEmpty}
 use Rattle.pennant.specs.Held.{items, weigh, one, size}
-use Rattle.pennant.proofs.Laws.{weigh-empty, weigh-union, weigh-items, empty-size, filled-size}
+use Rattle.pennant.proofs.Laws.{weigh-empty, weigh-items, filled-size}
 use Rattle.model.specs.Paths.{target, Labels, distanceOf, isSet}
-use Rattle.model.specs.State.{Phase, free, holding, inHand, marked, named, Worker}
-use Rattle.model.specs.Table.{holdAt, look, mark, isFree, allIdle}
+use Rattle.model.specs.State.{Phase, free, holding, inHand, marked, named}
+use Rattle.model.specs.Table.{holdAt, look, mark}
+use Rattle.model.proofs.Workers.{hold-cases, empty-bag}
 use Rattle.model.proofs.Cost.{degree, itemCost, filledOne, outputCost, phaseCost, unsetCost, unsetsCost}
 
 -- Sums.
@@ -27,29 +28,10 @@ module _ {A : Type 0} (f : A → ℕ) (l : List A) where
   pub sum-fall : (i : ℕ) (y d : A) → i < length l → suc (f y) ≤ f (getD l i d) → suc (sumOf f (set l i y)) ≤ sumOf f l
   sum-fall i y d h less = omega (arith, sum-set f l i y d h)
 
-  -- two elements replaced
-  pub sum-two : (i j : ℕ) (y z d : A) → i < length l → j < length l → (j ≡ i → ⊥)
-    → sumOf f (set (set l i y) j z) + (f (getD l i d) + f (getD l j d)) ≡ sumOf f l + (f y + f z)
-  sum-two i j y z d h k apart =
-      let second = rw (getD-set-other l i j y d apart) at (sum-set f (set l i y) j z d (lt-length-set l i y k)) in
-      omega (arith, sum-set f l i y d h)
-
   -- two elements replaced by two that weigh less together
   pub sum-two-fall : (i j : ℕ) (y z d : A) → i < length l → j < length l → (j ≡ i → ⊥)
-    → suc (f y + f z) ≤ f (getD l i d) + f (getD l j d) → suc (sumOf f (set (set l i y) j z)) ≤ sumOf f l
-  sum-two-fall i j y z d h k apart less = omega (arith, sum-two i j y z d h k apart)
-
--- a weight that is nowhere more than another one and k
-pub sum-most : {A : Type 0} (f h : A → ℕ) (k : ℕ) → ((x : A) → f x ≤ h x + k) → (l : List A) → sumOf f l ≤ sumOf h l + length l * k
-unfolding sumOf
-sum-most f h k most [] = omega arith
-sum-most f h k most (x ∷ l) = omega (arith, most x, sum-most f h k most l)
-
--- n times the same element
-pub sum-replicate : {A : Type 0} (f : A → ℕ) (n : ℕ) (x : A) → sumOf f (replicate n x) ≡ n * f x
-unfolding sumOf
-sum-replicate f zero x = omega arith
-sum-replicate f (suc n) x = omega (arith, sum-replicate f n x)
+      → suc (f y + f z) ≤ f (getD l i d) + f (getD l j d) → suc (sumOf f (set (set l i y) j z)) ≤ sumOf f l
+  sum-two-fall i j y z d h k apart less = omega (arith, sum-two f l j i z y d k h apart)
 
 -- Bags.
 
@@ -71,6 +53,7 @@ filled-weighs g s = go (isEmpty s) refl
   where
     sizes : size s ≤ weigh (itemCost g) s
     sizes = rw (weigh-items one s, weigh-items (itemCost g) s) (omega (arith, sum-most one (itemCost g) 0 (λ v. omega arith) (items s)))
+
     go : (b : Bool) → isEmpty s ≡ b → cond {A = ℕ} b 0 1 ≤ weigh (itemCost g) s
     go true e = omega arith
     go false e = omega (arith, filled-size s e, sizes)
@@ -78,15 +61,7 @@ filled-weighs g s = go (isEmpty s) refl
 -- the empty bag costs nothing as an output bag
 pub empty-output : (g : Graph) → outputCost g emptyBag ≡ 0
 empty-output g =
-    let empty : isEmpty emptyBag ≡ true = empty-size emptyBag ∙ eq-eqb (size emptyBag) 0 (weigh-empty one) in
-    rw empty (omega (arith, weigh-empty (itemCost g)))
-
--- output bags united into a bag
-pub weigh-outputs : (f : ℕ → ℕ) (bag : Bag) (workers : List Worker)
-  → weigh f (foldl bagUnion bag (map (λ (w : Worker). w .output) workers)) ≡ weigh f bag + sumOf (λ (w : Worker). weigh f (w .output)) workers
-unfolding sumOf
-weigh-outputs f bag [] = omega arith
-weigh-outputs f bag (w ∷ workers) = omega (arith, weigh-outputs f (bagUnion bag (w .output)) workers, weigh-union f bag (w .output))
+    rw empty-bag (omega (arith, weigh-empty (itemCost g)))
 
 -- Phases.
 
@@ -103,23 +78,9 @@ module _ (g : Graph) where
   phase-most a b k most (marked u i t) = omega arith
   phase-most a b k most (named u i t) = omega arith
 
-  -- a free worker has no edge left
-  pub free-cost : (x : Labels) (p : Phase) → isFree p ≡ true → phaseCost g x p ≡ 0
-  unfolding isFree
-  free-cost x free e = refl
-  free-cost x (holding u i) e = absurd (true≢false (sym e))
-  free-cost x (inHand u i t) e = absurd (true≢false (sym e))
-  free-cost x (marked u i t) e = absurd (true≢false (sym e))
-  free-cost x (named u i t) e = absurd (true≢false (sym e))
-
   -- at edge i of u, or free after the last one: the edges left
   pub hold-cost : (x : Labels) (u i : ℕ) → phaseCost g x (holdAt g u i) ≡ degree g u - i
-  unfolding holdAt
-  hold-cost x u i = go (ltb i (degree g u)) refl
-    where
-      go : (b : Bool) → ltb i (degree g u) ≡ b → phaseCost g x (cond b (holding u i) free) ≡ degree g u - i
-      go true e = refl
-      go false e = let past = ltb-false i (degree g u) e in omega arith
+  hold-cost x u i = hold-cases g (λ p. phaseCost g x p ≡ degree g u - i) u i (λ past. omega arith) (λ there. refl)
 
   -- after a look one edge fewer is left, and an unset vertex that is in hand then costs the worker nothing
   pub look-cost : (x : Labels) (u i : ℕ) → i < degree g u → suc (phaseCost g x (look g x u i)) ≤ degree g u - i
@@ -127,18 +88,9 @@ module _ (g : Graph) where
   look-cost x u i there = go (isSet (distanceOf x (target g u i))) refl
     where
       go : (b : Bool) → isSet (distanceOf x (target g u i)) ≡ b
-        → suc (phaseCost g x (cond b (holdAt g u (suc i)) (inHand u i (target g u i)))) ≤ degree g u - i
+          → suc (phaseCost g x (cond b (holdAt g u (suc i)) (inHand u i (target g u i)))) ≤ degree g u - i
       go true e = omega (arith, hold-cost x u (suc i))
       go false e = rw e (omega arith)
-
--- all workers are idle: the first one is free with an empty input bag, and the others are idle
-pub idle-first : (w : Worker) (workers : List Worker) → allIdle (w ∷ workers) ≡ true
-  → (isFree (w .phase) ≡ true) × (isEmpty (w .input) ≡ true) × (allIdle workers ≡ true)
-unfolding allIdle
-idle-first w workers e =
-    let idle = and-eq-true-iff (isFree (w .phase) && isEmpty (w .input)) (allIdle workers) .0 e in
-    let both = and-eq-true-iff (isFree (w .phase)) (isEmpty (w .input)) .0 (idle .0) in
-    (both .0, both .1, idle .1)
 
 -- Labels.
 
@@ -150,7 +102,7 @@ unsets-all (row ∷ g) = omega (arith, unsets-all g, length-append row (flatten 
 
 -- a label set: the unset vertices cost less by what that vertex cost as one of them
 pub unsets-set : (l : List (Option ℕ)) (g : Graph) (t k : ℕ) → length l ≡ length g → t < length l
-  → unsetsCost (set l t (some k)) g + unsetCost (getD l t none) (edges g t) ≡ unsetsCost l g
+    → unsetsCost (set l t (some k)) g + unsetCost (getD l t none) (edges g t) ≡ unsetsCost l g
 unfolding unsetsCost edges
 unsets-set [] g t k same h = absurd (omega arith)
 unsets-set (o ∷ l) [] t k same h = absurd (omega arith)
@@ -159,7 +111,7 @@ unsets-set (o ∷ l) (row ∷ g) (suc t) k same h = omega (arith, unsets-set l g
 
 -- only the source set
 pub unsets-source : (g : Graph) (source : ℕ) → source < length g
-  → unsetsCost (set (replicate (length g) none) source (some 0)) g + (6 + degree g source) ≡ 6 * length g + length (flatten g)
+    → unsetsCost (set (replicate (length g) none) source (some 0)) g + (6 + degree g source) ≡ 6 * length g + length (flatten g)
 unsets-source g source h =
     let unset : List (Option ℕ) = replicate (length g) none in
     let long = length-replicate {A = Option ℕ} (length g) none in
@@ -174,7 +126,7 @@ hand-paid (some k) row = omega arith
 
 -- a vertex marked: no vertex in hand costs more by more than the marked one cost with the unset ones
 pub mark-hand : (g : Graph) (d t : ℕ) (x : Labels) → t < length (x .distances) → (v : ℕ)
-  → handCost g (mark d t x) v ≤ handCost g x v + unsetCost (distanceOf x t) (edges g t)
+    → handCost g (mark d t x) v ≤ handCost g x v + unsetCost (distanceOf x t) (edges g t)
 unfolding mark
 mark-hand g d t x h v = go (eqb v t) refl
   where

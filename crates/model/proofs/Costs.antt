@@ -1,5 +1,5 @@
 -- The potential falls with every effective event, and the opening state costs no more than the bound.
-use mathlib.Core.Path.{_≡_, refl}
+use mathlib.Core.Path.{_≡_, refl, ap}
 use mathlib.Core.Bool.{Bool, true, false, cond, not, and-eq-true-iff}
 use mathlib.Core.List.{List, [], _∷_, map}
 use mathlib.Core.Option.{Option, none, some, Option·none-ne-some, Option·some-injective}
@@ -10,6 +10,7 @@ use lib.ListN.{length, set, replicate}
 use lib.Seq.{getD-set-same}
 use borrow.Author.Tests.{not-true}
 use Rattle.lists.specs.Lists.{sumOf}
+use Rattle.lists.proofs.Sums.{sum-most, sum-replicate}
 use Rattle.graph.specs.Graph.{Graph, edges, targetsOf}
 use Rattle.pennant.specs.Bag.{Bag, emptyBag, bagInsert, bagUnion, splitFirst, splitSecond, takeRest, takenNumber, isEmpty, atLeastTwo}
 use Rattle.pennant.specs.Held.{weigh, Shaped}
@@ -22,15 +23,11 @@ use Rattle.model.specs.Table.{holdAt, mark, name, move, moved, withWorke
 use Rattle.model.specs.Play.{eventBound}
 use Rattle.model.proofs.Sound.{Ground, PhaseSound, Sound}
 use Rattle.model.proofs.Walks.{target-below}
-use Rattle.model.proofs.Cost.{degree, itemCost, workerCost, unsetCost, unsetsCost, cost}
-use Rattle.model.proofs.CostFacts.{sum-fall, sum-two-fall, sum-most, sum-replicate, filled-one, filled-most, filled-weighs}
-use Rattle.model.proofs.CostFacts.{empty-output, weigh-outputs, handCost, phase-most, free-cost, hold-cost, look-cost, idle-first}
+use Rattle.model.proofs.Workers.{effective, weigh-unions, idle-first}
+use Rattle.model.proofs.Cost.{degree, itemCost, phaseCost, workerCost, unsetCost, unsetsCost, cost}
+use Rattle.model.proofs.CostFacts.{sum-fall, sum-two-fall, filled-one, filled-most, filled-weighs}
+use Rattle.model.proofs.CostFacts.{empty-output, handCost, phase-most, hold-cost, look-cost}
 use Rattle.model.proofs.CostFacts.{unsets-set, unsets-source, mark-hand}
-
--- where an event is effective its condition is met, and the state after it is the one that the table says
-effective : {A : Type 0} (b : Bool) (u t : A) → cond b (some u) none ≡ some t → (b ≡ true) × (u ≡ t)
-effective true u t e = (refl, Option·some-injective u t e)
-effective false u t e = absurd (Option·none-ne-some t e)
 
 module _ (g : Graph) where
   -- Moves.
@@ -59,7 +56,7 @@ module _ (g : Graph) where
 
   -- labels changed: what the unset vertices cost less by, a vertex in hand may cost each worker more
   relabel : (a b : Labels) (k : ℕ) → unsetsCost (b .distances) g + k ≡ unsetsCost (a .distances) g
-    → ((v : ℕ) → handCost g b v ≤ handCost g a v + k) → LabelsFall a b
+      → ((v : ℕ) → handCost g b v ≤ handCost g a v + k) → LabelsFall a b
   relabel a b k gain most workers =
       let sums = sum-most (workerCost g b) (workerCost g a) k (λ x. omega (arith, phase-most g a b k most (x .phase))) workers in
       rw (← gain) (omega (arith, sums))
@@ -71,29 +68,30 @@ module _ (g : Graph) where
     where
       taken : Worker
       taken = worker (takeRest input) output (holdAt g (takenNumber input) 0)
+
       go : (b : Bool) → isEmpty input ≡ b → MoveLowers a (worker input output free) (cond b none (some (taken, a)))
       go true e = tt
       go false e = same-labels a _ _ (omega (arith, weigh-rest (itemCost g) input shaped e, filled-one input e, hold-cost g a (takenNumber input) 0))
 
   -- mark: the vertex is set then, so the worker pays for it, but no more for the mark
   mark-lowers : (d u i t : ℕ) (a : Labels) (input output : Bag) → length (a .distances) ≡ length g → t < length g
-    → Lowers a (mark d t a) (worker input output (inHand u i t)) (worker input output (marked u i t))
+      → Lowers a (mark d t a) (worker input output (inHand u i t)) (worker input output (marked u i t))
   unfolding mark
   mark-lowers d u i t a input output same below = record {
     worker-falls = rw (getD-set-same (a .distances) t (some (suc d)) none (omega arith)) (omega arith);
     labels-fall = relabel a (mark d t a) (unsetCost (distanceOf a t) (edges g t)) (unsets-set (a .distances) g t (suc d) same (omega arith))
-      (mark-hand g d t a (omega arith));
+        (mark-hand g d t a (omega arith));
   }
 
   -- name: no distance changes
   name-lowers : (u i t : ℕ) (a : Labels) (input output : Bag)
-    → Lowers a (name u t a) (worker input output (marked u i t)) (worker input output (named u i t))
+      → Lowers a (name u t a) (worker input output (marked u i t)) (worker input output (named u i t))
   unfolding name
   name-lowers u i t a input output = record { worker-falls = omega arith; labels-fall = relabel a (name u t a) 0 (omega arith) (λ v. omega arith) }
 
   -- stow: the vertex costs less in the output bag, even if that was empty
   stow-falls : (u i t : ℕ) (a : Labels) (input output : Bag)
-    → suc (workerCost g a (worker input (bagInsert t output) (holdAt g u (suc i)))) ≤ workerCost g a (worker input output (named u i t))
+      → suc (workerCost g a (worker input (bagInsert t output) (holdAt g u (suc i)))) ≤ workerCost g a (worker input output (named u i t))
   stow-falls u i t a input output = omega (arith, weigh-insert (itemCost g) t output, filled-most (bagInsert t output), hold-cost g a u (suc i))
 
   -- Closing.
@@ -104,25 +102,32 @@ module _ (g : Graph) where
   handed-cost x [] e = refl
   handed-cost x (w ∷ workers) e =
       let idle = idle-first w workers e in
-      omega (arith, empty-output g, free-cost g x (w .phase) (idle .0), empty-weighs (itemCost g) (w .input) (idle .1), handed-cost x workers (idle .2))
+      omega (arith, empty-output g, ap (phaseCost g x) (idle .0 .phase-free), empty-weighs (itemCost g) (w .input) (idle .0 .input-empty), handed-cost x workers (idle .1))
 
   -- what is united costs less in one input bag than in the output bags
   united-cost : (x : Labels) (workers : List Worker) → 1 ≤ length workers → allIdle workers ≡ true → isEmpty (united workers) ≡ false
-    → suc (sumOf (workerCost g x) (set (map handedIn workers) 0 (worker (united workers) emptyBag free))) ≤ sumOf (workerCost g x) workers
+      → suc (sumOf (workerCost g x) (set (map handedIn workers) 0 (worker (united workers) emptyBag free))) ≤ sumOf (workerCost g x) workers
   unfolding united sumOf
   united-cost x [] staffed e filled = absurd (omega arith)
   united-cost x (w ∷ workers) staffed e filled =
       let idle = idle-first w workers e in
       let bag = united (w ∷ workers) in
       let outputs = sum-most (λ (v : Worker). weigh (itemCost g) (v .output)) (workerCost g x) 0 (λ v. omega arith) (w ∷ workers) in
-      omega (arith, weigh-outputs (itemCost g) (w .input) (w ∷ workers), empty-weighs (itemCost g) (w .input) (idle .1), filled-one bag filled,
-        filled-weighs g bag, empty-output g, handed-cost x workers (idle .2))
+      omega (
+        arith,
+        weigh-unions (λ (v : Worker). v .output) (itemCost g) (w .input) (w ∷ workers),
+        empty-weighs (itemCost g) (w .input) (idle .0 .input-empty),
+        filled-one bag filled,
+        filled-weighs g bag,
+        empty-output g,
+        handed-cost x workers (idle .1),
+      )
 
   -- Opening.
 
   -- idle workers, and the source in the input bag of the first one
   opening-workers : (x : Labels) (source P : ℕ)
-    → sumOf (workerCost g x) (set (replicate (suc P) idleWorker) 0 (worker (bagInsert source emptyBag) emptyBag free)) ≤ 2 + degree g source
+      → sumOf (workerCost g x) (set (replicate (suc P) idleWorker) 0 (worker (bagInsert source emptyBag) emptyBag free)) ≤ 2 + degree g source
   unfolding sumOf
   opening-workers x source P =
       let idle : workerCost g x idleWorker ≡ 0 = omega (arith, weigh-empty (itemCost g), empty-output g) in
@@ -132,7 +137,7 @@ module _ (g : Graph) where
 module _ {g : Graph} {source : ℕ} (ground : Ground g source) where
   -- every move of a worker lowers the cost
   move-lowers : (d : ℕ) (a : Labels) (input output : Bag) (p : Phase) → length (a .distances) ≡ length g → Shaped input → PhaseSound g source d a p
-    → MoveLowers g a (worker input output p) (move g d a input output p)
+      → MoveLowers g a (worker input output p) (move g d a input output p)
   unfolding move
   move-lowers d a input output free same shaped h = take-lowers g d a input output shaped
   move-lowers d a input output (holding u i) same shaped h = same-labels g a _ _ (omega (arith, look-cost g a u i (h .there)))
@@ -148,10 +153,12 @@ module _ {g : Graph} {source : ℕ} (ground : Ground g source) where
     where
       x : Worker
       x = workerAt (s .workers) w
+
       lowers : MoveLowers g (s .labels) x (move g (s .layer) (s .labels) (x .input) (x .output) (x .phase))
       lowers =
           let sound = h .crew-sound .each w in
           move-lowers (s .layer) (s .labels) (x .input) (x .output) (x .phase) (h .labels-sound .distances-all) (sound .input-shaped) (sound .phase-sound)
+
       go : (m : Option (Worker × Labels)) → MoveLowers g (s .labels) x m → moved s w m ≡ some t → suc (cost P g t) ≤ cost P g s
       go none low e = absurd (Option·none-ne-some t e)
       go (some m) low e =
@@ -162,9 +169,9 @@ module _ {g : Graph} {source : ℕ} (ground : Ground g source) where
 
   -- two workers replaced by two that cost less together
   two-cost : {P : ℕ} {s : State} (w v : ℕ) (x y : Worker) → Sound g source P s → w < P → v < P → (w ≡ v → ⊥)
-    → suc (workerCost g (s .labels) y + workerCost g (s .labels) x)
+      → suc (workerCost g (s .labels) y + workerCost g (s .labels) x)
       ≤ workerCost g (s .labels) (workerAt (s .workers) v) + workerCost g (s .labels) (workerAt (s .workers) w)
-    → suc (cost P g (withWorkers s (set (set (s .workers) v y) w x))) ≤ cost P g s
+      → suc (cost P g (withWorkers s (set (set (s .workers) v y) w x))) ≤ cost P g s
   unfolding cost
   two-cost {P} {s} w v x y h k l apart less =
       let crew = h .crew-sound .crew in
@@ -172,27 +179,40 @@ module _ {g : Graph} {source : ℕ} (ground : Ground g source) where
 
   -- an effective split lowers the cost: one more input bag isn't empty
   pub split-cost : {P : ℕ} {s t : State} (w v : ℕ) → Sound g source P s → w < P → v < P → (w ≡ v → ⊥) → act g s (Split w v) ≡ some t
-    → suc (cost P g t) ≤ cost P g s
+      → suc (cost P g t) ≤ cost P g s
   unfolding act splitInputs
   split-cost {P} {s} {t} w v h k l apart e =
       let bag = workerAt (s .workers) v .input in
       let met = effective _ (withWorkers s (splitInputs (s .workers) w v)) t e in
       let both = and-eq-true-iff (isEmpty (workerAt (s .workers) w .input)) (atLeastTwo bag) .0 (met .0) in
       let filled = split-filled bag (h .crew-sound .each v .input-shaped) (both .1) in
-      rw (← met .1) (two-cost w v _ _ h k l apart (omega (arith, weigh-split (itemCost g) bag, filled-most bag, filled-one (splitFirst bag) (filled .0),
-        filled-weighs g (splitFirst bag), filled-one (splitSecond bag) (filled .1), filled-weighs g (splitSecond bag))))
+      rw (← met .1) (two-cost w v _ _ h k l apart (omega (
+        arith,
+        weigh-split (itemCost g) bag,
+        filled-most bag,
+        filled-one (splitFirst bag) (filled .0),
+        filled-weighs g (splitFirst bag),
+        filled-one (splitSecond bag) (filled .1),
+        filled-weighs g (splitSecond bag),
+      )))
 
   -- an effective union lowers the cost: one output bag fewer isn't empty
   pub unite-cost : {P : ℕ} {s t : State} (w v : ℕ) → Sound g source P s → w < P → v < P → (w ≡ v → ⊥) → act g s (Unite w v) ≡ some t
-    → suc (cost P g t) ≤ cost P g s
+      → suc (cost P g t) ≤ cost P g s
   unfolding act uniteOutputs
   unite-cost {P} {s} {t} w v h k l apart e =
       let from = workerAt (s .workers) w .output in
       let into = workerAt (s .workers) v .output in
       let met = effective _ (withWorkers s (uniteOutputs (s .workers) w v)) t e in
       let both = and-eq-true-iff (not (isEmpty from)) (not (isEmpty into)) .0 (met .0) in
-      rw (← met .1) (two-cost w v _ _ h k l apart (omega (arith, weigh-union (itemCost g) into from, filled-most (bagUnion into from), empty-output g,
-        filled-one from (not-true (isEmpty from) (both .0)), filled-one into (not-true (isEmpty into) (both .1)))))
+      rw (← met .1) (two-cost w v _ _ h k l apart (omega (
+        arith,
+        weigh-union (itemCost g) into from,
+        filled-most (bagUnion into from),
+        empty-output g,
+        filled-one from (not-true (isEmpty from) (both .0)),
+        filled-one into (not-true (isEmpty into) (both .1)),
+      )))
 
   -- an effective close lowers the cost: the finishing one by itself, any other one by what it unites
   pub close-cost : {P : ℕ} {s t : State} → 1 ≤ P → Sound g source P s → s .finished ≡ false → act g s Close ≡ some t → suc (cost P g t) ≤ cost P g s

@@ -1,9 +1,9 @@
 -- What is counted over the workers: how often a vertex is in an input bag, in an output bag, in hand, about to be named, and how many workers
 -- are at an edge of it or before. Every clause of the invariant is about these sums.
-use mathlib.Core.Bool.{Bool, true, false, cond, _&&_}
-use mathlib.Core.List.{List, [], _∷_}
+use mathlib.Core.Bool.{cond, _&&_}
+use mathlib.Core.List.{List}
 use mathlib.Core.Option.{Option, none, some}
-use Prim.Native.Nat.{ℕ, _+_}
+use Prim.Native.Nat.{ℕ}
 use lib.Dec.{eqb, leb}
 use Rattle.lists.specs.Lists.{sumOf}
 use Rattle.pennant.specs.Held.{only, copies}

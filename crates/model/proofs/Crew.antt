@@ -1,17 +1,18 @@
 -- The crew stays sound: when one worker moves, when an input bag is split between two workers, and when an output bag is united into another's.
 use mathlib.Core.Path.{_≡_, refl, sym, ap, _∙_}
-use mathlib.Core.Bool.{Bool, true, false, cond}
-use mathlib.Core.List.{List, [], _∷_}
+use mathlib.Core.Bool.{true}
+use mathlib.Core.List.{List}
 use mathlib.Core.Option.{Option, none, some}
 use mathlib.Core.Logic.{inl, inr}
-use Prim.Native.Nat.{ℕ, zero, suc, _+_, _≤_, _<_}
+use Prim.Native.Nat.{ℕ, suc, _+_, _≤_, _<_}
 use native.Mathlib.Decide.{decLe}
 use native.Mathlib.Omega.{arith}
 use lib.Dec.{eqb}
-use lib.ListN.{length, getD, set, length-set}
-use lib.Seq.{getD-set-other}
+use lib.ListN.{length, set, length-set}
 use Rattle.lists.specs.Lists.{sumOf}
-use Rattle.lists.proofs.Sums.{sum-set, sum-at}
+use Rattle.lists.proofs.Sums.{sum-set, sum-at, sum-two, sum-within}
+use Rattle.lists.proofs.Tests.{test-within}
+use Rattle.lists.proofs.Replaced.{each-set}
 use Rattle.graph.specs.Graph.{Graph, edges}
 use Rattle.pennant.specs.Bag.{Bag, emptyBag, bagUnion, splitFirst, splitSecond, isEmpty}
 use Rattle.pennant.specs.Held.{only, copies, Shaped}
@@ -20,50 +21,16 @@ use Rattle.model.specs.Paths.{target, Distance, Labels, distanceOf, pare
 use Rattle.model.specs.State.{Phase, free, holding, inHand, marked, named, Worker, worker, idleWorker, workerAt}
 use Rattle.model.specs.Table.{splitInputs, uniteOutputs}
 use Rattle.model.proofs.Counts.{setOne, handOf, namingOf, atOf, inputs, outputs, hands, namings, ats}
+use Rattle.model.proofs.LabelFacts.{set-kept}
 use Rattle.model.proofs.Sound.{Ground, PhaseSound, WorkerSound, CrewSound, Moves}
-
--- Lists with elements replaced, and weights over them.
-
--- what holds of each element and of a new one holds of each element where the new one replaces one of them
-pub each-set : {A : Type 0} (Q : A → Type 0) (l : List A) (i : ℕ) (y d : A) → Q y → ((j : ℕ) → Q (getD l j d)) → (j : ℕ) → Q (getD (set l i y) j d)
-each-set Q [] i y d new old j = old j
-each-set Q (x ∷ l) zero y d new old zero = new
-each-set Q (x ∷ l) zero y d new old (suc j) = old (suc j)
-each-set Q (x ∷ l) (suc i) y d new old zero = old zero
-each-set Q (x ∷ l) (suc i) y d new old (suc j) = each-set Q l i y d new (λ k. old (suc k)) j
-
-module _ {A : Type 0} (f : A → ℕ) where
-  -- two elements replaced
-  pub sum-two : (l : List A) (i j : ℕ) (x y d : A) → i < length l → j < length l → (i ≡ j → ⊥)
-    → sumOf f (set (set l j y) i x) + f (getD l i d) + f (getD l j d) ≡ sumOf f l + f x + f y
-  sum-two l i j x y d h k apart =
-      let first = sum-set f l j y d k in
-      let second = rw (getD-set-other l j i y d apart) at (sum-set f (set l j y) i x d (rw length-set h)) in
-      omega arith
-
-  -- elements that weigh at most 1 weigh no more together than there are
-  pub sum-few : ((x : A) → f x ≤ 1) → (l : List A) → sumOf f l ≤ length l
-  unfolding sumOf
-  sum-few light [] = omega arith
-  sum-few light (x ∷ l) = omega (arith, light x, sum-few light l)
-
--- a label that stays as it is set counts no less afterwards
-set-kept : (l m : Option ℕ) → ((k : ℕ) → l ≡ some k → m ≡ some k) → setOne l ≤ setOne m
-set-kept none m keeps = omega arith
-set-kept (some k) m keeps = rw (keeps k refl) (omega arith)
-
--- a test counts at most once
-test-few : (b : Bool) → cond b 1 0 ≤ 1
-test-few true = omega arith
-test-few false = omega arith
 
 -- a worker has a vertex in hand at most once
 hand-few : (v : ℕ) (phase : Phase) → handOf v phase ≤ 1
 hand-few v free = omega arith
 hand-few v (holding u i) = omega arith
-hand-few v (inHand u i t) = test-few (eqb t v)
-hand-few v (marked u i t) = test-few (eqb t v)
-hand-few v (named u i t) = test-few (eqb t v)
+hand-few v (inHand u i t) = test-within (eqb t v) 1 (λ e. omega arith)
+hand-few v (marked u i t) = test-within (eqb t v) 1 (λ e. omega arith)
+hand-few v (named u i t) = test-within (eqb t v) 1 (λ e. omega arith)
 
 module _ {g : Graph} {source : ℕ} (ground : Ground g source) where
   module _ {P d : ℕ} {a b : Labels} (workers : List Worker) (w : ℕ) (y : Worker)
@@ -113,18 +80,18 @@ module _ {g : Graph} {source : ℕ} (ground : Ground g source) where
     next-kept v held =
         let before : 1 ≤ outputs v workers → distanceOf b v ≡ some (suc d) = λ old. m .keeps v (suc d) (c .output-next v old) in
         elim (decLe 1 (copies v (y .output))) [
-          yes here ↦ elim (m .outputs-set v here) [ inl old ↦ before (omega (arith, outputs-change v)) | inr next ↦ next ]
-        | no away ↦ before (omega (arith, outputs-change v))
+          | yes here ↦ elim (m .outputs-set v here) [ inl old ↦ before (omega (arith, outputs-change v)) | inr next ↦ next ]
+          | no away ↦ before (omega (arith, outputs-change v))
         ]
 
     -- every edge of this layer is still to be looked at, or its target is set
     covered-kept : (u i : ℕ) → Distance g source u d → i < length (edges g u)
-      → 1 ≤ inputs u (set workers w y) + ats u i (set workers w y) + setOne (distanceOf b (target g u i))
+        → 1 ≤ inputs u (set workers w y) + ats u i (set workers w y) + setOne (distanceOf b (target g u i))
     covered-kept u i far there =
         let target-set = set-kept (distanceOf a (target g u i)) (distanceOf b (target g u i)) (m .keeps (target g u i)) in
         elim (decLe 1 (copies u (workerAt workers w .input) + atOf u i (workerAt workers w .phase))) [
-          yes here ↦ omega (arith, inputs-change u, ats-change u i, m .edges-kept u i far there here)
-        | no away ↦ omega (arith, inputs-change u, ats-change u i, c .covered u i far there)
+          | yes here ↦ omega (arith, inputs-change u, ats-change u i, m .edges-kept u i far there here)
+          | no away ↦ omega (arith, inputs-change u, ats-change u i, c .covered u i far there)
         ]
 
     -- every vertex set for the next layer is in an output bag or on its way there
@@ -138,13 +105,17 @@ module _ {g : Graph} {source : ℕ} (ground : Ground g source) where
     -- at most P copies: an unset vertex is in no output bag, and in at most one hand of each worker
     few-kept : (v : ℕ) → outputs v (set workers w y) + hands v (set workers w y) ≤ P
     few-kept v = elim (m .copies-added v) [
-          inl same ↦ omega (arith, outputs-change v, hands-change v, c .few-outputs v)
-        | inr added ↦ elim (decLe 1 (outputs v workers)) [
-            yes held ↦ absurd (omega (arith, ap setOne (sym (added .0) ∙ c .output-next v held)))
-          | no away ↦ omega (arith, outputs-change v, sum-few (λ (x : Worker). handOf v (x .phase)) (λ x. hand-few v (x .phase)) (set workers w y),
-              length-set workers w y)
-          ]
-        ]
+      | inl same ↦ omega (arith, outputs-change v, hands-change v, c .few-outputs v)
+      | inr added ↦ elim (decLe 1 (outputs v workers)) [
+        | yes held ↦ absurd (omega (arith, ap setOne (sym (added .0) ∙ c .output-next v held)))
+        | no away ↦ omega (
+          arith,
+          outputs-change v,
+          sum-within (λ (x : Worker). handOf v (x .phase)) 1 (λ x. hand-few v (x .phase)) (set workers w y),
+          length-set workers w y,
+        )
+      ]
+    ]
 
     -- every vertex that is set has a parent or is about to be named
     parented-kept : (v : ℕ) → isSet (distanceOf b v) ≡ true → 1 ≤ namings v (set workers w y) + setOne (parentOf b v)
@@ -153,9 +124,9 @@ module _ {g : Graph} {source : ℕ} (ground : Ground g source) where
         go : (l : Option ℕ) → distanceOf a v ≡ l → 1 ≤ namings v (set workers w y) + setOne (parentOf b v)
         go none e = omega (arith, namings-change v, m .newly-set v e is)
         go (some k) e = elim (m .parents-kept v) [
-              inl kept ↦ omega (arith, namings-change v, c .parented v (rw e refl))
-            | inr has ↦ omega arith
-            ]
+          | inl kept ↦ omega (arith, namings-change v, c .parented v (rw e refl))
+          | inr has ↦ omega arith
+        ]
 
     -- one worker moves
     pub crew-moves : CrewSound g source P d b (set workers w y)
@@ -173,9 +144,9 @@ module _ {g : Graph} {source : ℕ} (ground : Ground g source) where
 
   -- other workers, as many, with as many copies of each vertex in their input bags and in their output bags, and with the same phases in some order
   crew-same : {P d : ℕ} {x : Labels} (before after : List Worker) → CrewSound g source P d x before → length after ≡ length before
-    → ((w : ℕ) → WorkerSound g source d x (workerAt after w))
-    → ((v : ℕ) → inputs v after ≡ inputs v before) → ((v : ℕ) → outputs v after ≡ outputs v before)
-    → ((f : Phase → ℕ) → sumOf (λ (w : Worker). f (w .phase)) after ≡ sumOf (λ (w : Worker). f (w .phase)) before) → CrewSound g source P d x after
+      → ((w : ℕ) → WorkerSound g source d x (workerAt after w))
+      → ((v : ℕ) → inputs v after ≡ inputs v before) → ((v : ℕ) → outputs v after ≡ outputs v before)
+      → ((f : Phase → ℕ) → sumOf (λ (w : Worker). f (w .phase)) after ≡ sumOf (λ (w : Worker). f (w .phase)) before) → CrewSound g source P d x after
   crew-same before after c as-many each same-inputs same-outputs same-phases = record {
     crew = as-many ∙ c .crew;
     each = each;
@@ -196,21 +167,21 @@ module _ {g : Graph} {source : ℕ} (ground : Ground g source) where
 
     -- what split and unite share: w gets the bags p and q, v gets s and t, both keep their phases, and together they hold what they held before
     crew-shared : (p q s t : Bag) → Shaped p → Shaped q → Shaped s → Shaped t
-      → ((u : ℕ) → copies u p + copies u s ≡ copies u (workerAt workers w .input) + copies u (workerAt workers v .input))
-      → ((u : ℕ) → copies u q + copies u t ≡ copies u (workerAt workers w .output) + copies u (workerAt workers v .output))
-      → CrewSound g source P d x (set (set workers v (worker s t (workerAt workers v .phase))) w (worker p q (workerAt workers w .phase)))
+        → ((u : ℕ) → copies u p + copies u s ≡ copies u (workerAt workers w .input) + copies u (workerAt workers v .input))
+        → ((u : ℕ) → copies u q + copies u t ≡ copies u (workerAt workers w .output) + copies u (workerAt workers v .output))
+        → CrewSound g source P d x (set (set workers v (worker s t (workerAt workers v .phase))) w (worker p q (workerAt workers w .phase)))
     crew-shared p q s t p-shaped q-shaped s-shaped t-shaped same-input same-output =
         let y = worker p q (workerAt workers w .phase) in
         let z = worker s t (workerAt workers v .phase) in
         let same : (f : Worker → ℕ) → f y + f z ≡ f (workerAt workers w) + f (workerAt workers v)
-              → sumOf f (set (set workers v z) w y) ≡ sumOf f workers
-              = λ f e. omega (arith, sum-two f workers w v y z idleWorker (rw (c .crew) h) (rw (c .crew) k) apart) in
+        → sumOf f (set (set workers v z) w y) ≡ sumOf f workers
+        = λ f e. omega (arith, sum-two f workers w v y z idleWorker (rw (c .crew) h) (rw (c .crew) k) apart) in
         crew-same workers (set (set workers v z) w y) c (length-set (set workers v z) w y ∙ length-set workers v z)
-          (each-set (WorkerSound g source d x) (set workers v z) w y idleWorker (refilled w p q p-shaped q-shaped)
-            (each-set (WorkerSound g source d x) workers v z idleWorker (refilled v s t s-shaped t-shaped) (c .each)))
-          (λ u. same (λ (j : Worker). copies u (j .input)) (same-input u))
-          (λ u. same (λ (j : Worker). copies u (j .output)) (same-output u))
-          (λ f. same (λ (j : Worker). f (j .phase)) refl)
+        (each-set (WorkerSound g source d x) (set workers v z) w y idleWorker (refilled w p q p-shaped q-shaped)
+        (each-set (WorkerSound g source d x) workers v z idleWorker (refilled v s t s-shaped t-shaped) (c .each)))
+        (λ u. same (λ (j : Worker). copies u (j .input)) (same-input u))
+        (λ u. same (λ (j : Worker). copies u (j .output)) (same-output u))
+        (λ f. same (λ (j : Worker). f (j .phase)) refl)
 
     -- w, whose input bag is empty, gets the second bag of a split of v's
     pub crew-split : isEmpty (workerAt workers w .input) ≡ true → CrewSound g source P d x (splitInputs workers w v)
@@ -219,8 +190,8 @@ module _ {g : Graph} {source : ℕ} (ground : Ground g source) where
         let whole = workerAt workers v .input in
         let whole-shaped = c .each v .input-shaped in
         crew-shared (splitSecond whole) (workerAt workers w .output) (splitFirst whole) (workerAt workers v .output)
-          (shaped-second whole whole-shaped) (c .each w .output-shaped) (shaped-first whole whole-shaped) (c .each v .output-shaped)
-          (λ u. omega (arith, weigh-split (only u) whole, empty-weighs (only u) (workerAt workers w .input) e)) (λ u. refl)
+        (shaped-second whole whole-shaped) (c .each w .output-shaped) (shaped-first whole whole-shaped) (c .each v .output-shaped)
+        (λ u. omega (arith, weigh-split (only u) whole, empty-weighs (only u) (workerAt workers w .input) e)) (λ u. refl)
 
     -- w's output bag is united into v's and left empty
     pub crew-unite : CrewSound g source P d x (uniteOutputs workers w v)
@@ -229,5 +200,5 @@ module _ {g : Graph} {source : ℕ} (ground : Ground g source) where
         let out = workerAt workers w .output in
         let into = workerAt workers v .output in
         crew-shared (workerAt workers w .input) emptyBag (workerAt workers v .input) (bagUnion into out)
-          (c .each w .input-shaped) shaped-empty (c .each v .input-shaped) (shaped-union into out (c .each v .output-shaped) (c .each w .output-shaped))
-          (λ u. refl) (λ u. omega (arith, weigh-empty (only u), weigh-union (only u) into out))
+        (c .each w .input-shaped) shaped-empty (c .each v .input-shaped) (shaped-union into out (c .each v .output-shaped) (c .each w .output-shaped))
+        (λ u. refl) (λ u. omega (arith, weigh-empty (only u), weigh-union (only u) into out))

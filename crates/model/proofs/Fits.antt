@@ -11,7 +11,8 @@ use lib.ListN.{length}
 use borrow.Author.Tests.{ne-eqb}
 use Rattle.numbers.specs.Numbers.{maxVertices}
 use Rattle.lists.specs.Lists.{numbersFrom, sumOf}
-use Rattle.lists.proofs.Sums.{sum-append, sum-at}
+use Rattle.lists.proofs.Sums.{sum-append, sum-at, sum-both, sum-within}
+use Rattle.lists.proofs.Parts.{place-below}
 use Rattle.lists.proofs.Tests.{length-range, getD-range}
 use Rattle.graph.specs.Graph.{Graph}
 use Rattle.pennant.specs.Bag.{slotCount}
@@ -23,19 +24,6 @@ use Rattle.model.specs.Demand.{held, Fitting}
 use Rattle.model.proofs.Counts.{inputs, outputs}
 use Rattle.model.proofs.Sound.{Ground, Sound}
 use Rattle.model.proofs.Walks.{walk-below, distance-unique}
-use Rattle.model.proofs.Certificate.{label-below}
-
--- two weights over one list
-sum-both : {A : Type 0} (f g : A → ℕ) (l : List A) → sumOf (λ (x : A). f x + g x) l ≡ sumOf f l + sumOf g l
-unfolding sumOf
-sum-both f g [] = refl
-sum-both f g (x ∷ l) = omega (arith, sum-both f g l)
-
--- a weight that is at most `most` everywhere
-sum-most : {A : Type 0} (f : A → ℕ) (most : ℕ) (l : List A) → ((x : A) → f x ≤ most) → sumOf f l ≤ most * length l
-unfolding sumOf
-sum-most f most [] h = omega arith
-sum-most f most (x ∷ l) h = omega (arith, h x, sum-most f most l h)
 
 -- a number below n is counted among 0, 1, .., n - 1
 range-counts : (x n : ℕ) → x < n → 1 ≤ sumOf (λ (v : ℕ). only v x) (numbersFrom 0 n)
@@ -56,7 +44,7 @@ counts-long n (x ∷ l) below =
 -- .. so it holds at most n times as many numbers as it holds of any one
 counts-most : (n most : ℕ) (l : List ℕ) → ((v : ℕ) → 1 ≤ sumOf (only v) l → v < n) → ((v : ℕ) → sumOf (only v) l ≤ most) → sumOf one l ≤ most * n
 counts-most n most l below few =
-    let all = sum-most (λ (v : ℕ). sumOf (only v) l) most (numbersFrom 0 n) few in
+    let all = sum-within (λ (v : ℕ). sumOf (only v) l) most few (numbersFrom 0 n) in
     omega (arith, counts-long n l below, rw (length-range 0 n) at all)
 
 -- the numbers of all bags
@@ -134,7 +122,7 @@ module _ {g : Graph} {source : ℕ} (ground : Ground g source) where
         go (yes same) = omega (arith, ground .starts, mem-unique (h .labels-sound .own-parent) (rw same at e))
         go (no apart) =
             let n = h .labels-sound .parent v p apart e in
-            rw (h .labels-sound .distances-all) at (label-below (s .labels .distances) p (n .depth) (n .here))
+            rw (h .labels-sound .distances-all) at (place-below (s .labels .distances) p (n .here))
 
   -- every sound state fits
   pub sound-fits : {P : ℕ} {s : State} → P ≤ 8 → Sound g source P s → Fitting g P s

@@ -1,56 +1,29 @@
 -- A crew that is idle but for worker 0's input bag, as every layer starts. If that bag holds the layer, the crew is sound and the layer is open.
 use mathlib.Core.Path.{_≡_, refl, _∙_}
 use mathlib.Core.Bool.{Bool, true}
-use mathlib.Core.List.{List, [], _∷_}
+use mathlib.Core.List.{List}
 use mathlib.Core.Option.{some}
-use Prim.Native.Nat.{ℕ, zero, suc, _≤_, _<_}
+use Prim.Native.Nat.{ℕ, suc, _≤_, _<_}
 use native.Mathlib.Omega.{arith}
-use lib.ListN.{length, getD, set, length-set}
+use lib.ListN.{length, set, length-set}
 use lib.Seq.{getD-set-same, getD-set-other}
-use borrow.Author.Tests.{eq-eqb}
 use Rattle.lists.specs.Lists.{sumOf}
-use Rattle.lists.proofs.Sums.{sum-set}
+use Rattle.lists.proofs.Sums.{sum-none, sum-first}
+use Rattle.lists.proofs.Replaced.{each-set}
 use Rattle.graph.specs.Graph.{Graph}
 use Rattle.pennant.specs.Bag.{Bag, emptyBag, isEmpty}
-use Rattle.pennant.specs.Held.{one, only, size, copies, Shaped}
-use Rattle.pennant.proofs.Laws.{weigh-empty, empty-size, empty-weighs, shaped-empty}
+use Rattle.pennant.specs.Held.{only, copies, Shaped}
+use Rattle.pennant.proofs.Laws.{empty-weighs, shaped-empty}
 use Rattle.model.specs.Paths.{Distance, Labels, distanceOf, parentOf, isSet}
 use Rattle.model.specs.State.{free, Worker, worker, idleWorker, workerAt}
 use Rattle.model.specs.Demand.{LayerOpen}
 use Rattle.model.proofs.Counts.{setOne, handOf, namingOf, atOf, inputs, hands, namings, ats}
+use Rattle.model.proofs.Workers.{empty-bag, Idle, idle-worker}
 use Rattle.model.proofs.Sound.{WorkerSound, CrewSound}
-
--- Lists.
-
--- a list on which the weight is 0 everywhere
-pub sum-none : {A : Type 0} (f : A → ℕ) (d : A) (l : List A) → ((i : ℕ) → f (getD l i d) ≡ 0) → sumOf f l ≡ 0
-unfolding sumOf
-sum-none f d [] h = refl
-sum-none f d (x ∷ l) h = omega (arith, h 0, sum-none f d l (λ i. h (suc i)))
-
--- .. and such a list with its first element replaced
-pub sum-first : {A : Type 0} (f : A → ℕ) (d : A) (l : List A) (y : A) → 1 ≤ length l → ((i : ℕ) → f (getD l i d) ≡ 0) → sumOf f (set l 0 y) ≡ f y
-sum-first f d l y long h = omega (arith, sum-set f l 0 y d long, sum-none f d l h, h 0)
-
--- what holds of every element, and of what is read past the end, holds with the first one replaced if it holds of the new one
-pub set-first : {A : Type 0} (Q : A → Type 0) (d : A) (l : List A) (y : A) → 1 ≤ length l → Q y → ((i : ℕ) → Q (getD l i d))
-    → (i : ℕ) → Q (getD (set l 0 y) i d)
-set-first Q d [] y long new old i = absurd (omega arith)
-set-first Q d (x ∷ l) y long new old zero = new
-set-first Q d (x ∷ l) y long new old (suc i) = old (suc i)
 
 -- Workers.
 
--- the empty bag is empty
-pub empty-bag : isEmpty emptyBag ≡ true
-empty-bag = empty-size emptyBag ∙ eq-eqb (size emptyBag) 0 (weigh-empty one)
-
--- a worker that is free and whose input bag is empty
-pub record Idle (w : Worker) : Type 0 where
-  pub input-empty : isEmpty (w .input) ≡ true
-  pub phase-free : w .phase ≡ free
-
--- .. and whose output bag is empty too, both in shape
+-- an idle worker whose output bag is empty too, both bags in shape
 pub record Spare (w : Worker) : Type 0 where
   pub idle : Idle w
   pub output-empty : isEmpty (w .output) ≡ true
@@ -60,7 +33,7 @@ pub record Spare (w : Worker) : Type 0 where
 -- a worker with two empty bags
 pub spare-idle : Spare idleWorker
 spare-idle = record {
-  idle = record { input-empty = empty-bag; phase-free = refl };
+  idle = idle-worker;
   output-empty = empty-bag;
   input-shaped = shaped-empty;
   output-shaped = shaped-empty;
@@ -117,7 +90,7 @@ module _ {g : Graph} {source P d : ℕ} {spares : List Worker} {bag : Bag} (spar
 
   -- what holds of that worker and of every spare one holds of the crew
   each-fresh : (Q : Worker → Type 0) → Q filled → ((w : ℕ) → Q (workerAt spares w)) → (w : ℕ) → Q (workerAt fresh w)
-  each-fresh Q new old = set-first Q idleWorker spares filled some-spare new old
+  each-fresh Q new old = each-set Q spares 0 filled idleWorker new old
 
   -- output bags are empty
   fresh-outputs : (w : ℕ) → isEmpty (workerAt fresh w .output) ≡ true

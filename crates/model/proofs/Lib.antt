@@ -1,9 +1,11 @@
--- Demand 3, proved of playing any schedule.
+-- Demand 3, proved of playing any schedule: Theorem.antt, by way of the files before it.
 pub mod Bench
 pub mod Counts
 pub mod Sound
 pub mod Walks
 pub mod Certificate
+pub mod LabelFacts
+pub mod Workers
 pub mod MovingLabels
 pub mod Moving
 pub mod Crew
@@ -14,7 +16,6 @@ pub mod Cost
 pub mod CostFacts
 pub mod Costs
 pub mod Fits
-pub mod Members
 pub mod SerialRun
 pub mod Rounds
 pub mod Steps

@@ -1,13 +1,14 @@
 -- What each move of a worker does to the sums over all workers, and that it keeps the labels sound.
 use mathlib.Core.Path.{_≡_, refl, sym, _∙_}
-use mathlib.Core.Bool.{Bool, true, false, cond, _&&_, true≢false, and-eq-true-iff}
+use mathlib.Core.Bool.{Bool, true, false, cond, _&&_, and-eq-true-iff}
 use mathlib.Core.Option.{Option, none, some}
 use mathlib.Core.Logic.{_⊎_, inl, inr}
 use Prim.Native.Nat.{ℕ, suc, _+_, _≤_, _<_}
 use native.Mathlib.Omega.{arith}
-use lib.Dec.{eqb, leb, ltb}
+use lib.Dec.{eqb, leb}
 use lib.ListN.{length}
-use borrow.Author.Tests.{ltb-true, ltb-false, leb-true, leb-false, eqb-true, eq-eqb, ne-eqb, le-leb}
+use borrow.Author.Tests.{leb-true, leb-false, eqb-true, eq-eqb, ne-eqb, le-leb}
+use Rattle.lists.proofs.Tests.{test-within}
 use Rattle.graph.specs.Graph.{Graph, edges}
 use Rattle.pennant.specs.Bag.{Bag, bagInsert, takeRest, takenNumber, isEmpty}
 use Rattle.pennant.specs.Held.{only, copies, Shaped}
@@ -17,50 +18,26 @@ use Rattle.model.specs.State.{Phase, free, holding, inHand, marked, name
 use Rattle.model.specs.Table.{holdAt, look, mark, name, move}
 use Rattle.model.proofs.Counts.{setOne, handOf, namingOf, atOf}
 use Rattle.model.proofs.Sound.{Ground, LabelsSound, PhaseSound, WorkerSound, Moves}
+use Rattle.model.proofs.LabelFacts.{set-one, unset-none, not-both}
+use Rattle.model.proofs.Workers.{hold-cases}
 use Rattle.model.proofs.MovingLabels.{unset-next, mark-writes, mark-cases, mark-keeps, mark-sound, name-cases, name-sound}
 
--- a test counts no more than what is at least 1 where it holds
-test-within : (b : Bool) (n : ℕ) → (b ≡ true → 1 ≤ n) → cond b 1 0 ≤ n
-test-within true n h = h refl
-test-within false n h = omega arith
-
--- a label that is set counts 1
-set-one : (x : Option ℕ) → isSet x ≡ true → setOne x ≡ 1
-set-one none e = absurd (true≢false (sym e))
-set-one (some k) e = refl
-
--- a label that isn't set is none
-unset-none : (x : Option ℕ) → isSet x ≡ false → x ≡ none
-unset-none none e = refl
-unset-none (some k) e = absurd (true≢false e)
-
--- a label can't be none and set
-not-both : {R : Type 0} {x : Option ℕ} → x ≡ none → isSet x ≡ true → R
-not-both e s = absurd (true≢false (sym (rw e at s)))
-
 module _ (g : Graph) where
-  -- a worker that goes to edge i of u: it is free where u has no such edge, else it holds u there
-  hold-cases : (P : Phase → Type 0) (u i : ℕ) → (length (edges g u) ≤ i → P free) → (i < length (edges g u) → P (holding u i)) → P (holdAt g u i)
-  unfolding holdAt
-  hold-cases P u i past there = go (ltb i (length (edges g u))) refl
-    where
-      go : (b : Bool) → ltb i (length (edges g u)) ≡ b → P (cond b (holding u i) free)
-      go true q = there (ltb-true i (length (edges g u)) q)
-      go false q = past (ltb-false i (length (edges g u)) q)
+  -- A worker that goes to edge i of u.
 
   -- it has nothing in hand
   hold-hand : (u i v : ℕ) → handOf v (holdAt g u i) ≡ 0
-  hold-hand u i v = hold-cases (λ p. handOf v p ≡ 0) u i (λ h. refl) (λ h. refl)
+  hold-hand u i v = hold-cases g (λ p. handOf v p ≡ 0) u i (λ h. refl) (λ h. refl)
 
   -- it is at u, before every edge from i on
   hold-at : (u i v j : ℕ) → u ≡ v → i ≤ j → j < length (edges g v) → 1 ≤ atOf v j (holdAt g u i)
-  hold-at u i v j same before there = hold-cases (λ p. 1 ≤ atOf v j p) u i
-    (λ past. absurd (omega (arith, rw same at past)))
-    (λ h. rw (eq-eqb u v same, le-leb i j before) (omega arith))
+  hold-at u i v j same before there = hold-cases g (λ p. 1 ≤ atOf v j p) u i
+      (λ past. absurd (omega (arith, rw same at past)))
+      (λ h. rw (eq-eqb u v same, le-leb i j before) (omega arith))
 
   -- a worker that passes on from edge i, whose target is set, leaves no edge whose target isn't
   passes : (a : Labels) (u i v j : ℕ) → isSet (distanceOf a (target g u i)) ≡ true → j < length (edges g v)
-    → atOf v j (holding u i) ≤ atOf v j (holdAt g u (suc i)) + setOne (distanceOf a (target g v j))
+      → atOf v j (holding u i) ≤ atOf v j (holdAt g u (suc i)) + setOne (distanceOf a (target g v j))
   passes a u i v j set there = test-within (eqb u v && leb i j) _ (λ q.
       let both = and-eq-true-iff (eqb u v) (leb i j) .0 q in
       go (leb (suc i) j) refl (eqb-true u v (both .0)) (leb-true i j (both .1)))
@@ -74,18 +51,18 @@ module _ (g : Graph) where
 module _ {g : Graph} {source d : ℕ} {a : Labels} where
   -- a worker that keeps its bags and changes its phase
   in-phase : {b : Labels} {input output : Bag} {p q : Phase} → WorkerSound g source d a (worker input output p) → PhaseSound g source d b q
-    → WorkerSound g source d b (worker input output q)
+      → WorkerSound g source d b (worker input output q)
   in-phase w h = record { input-shaped = w .input-shaped; output-shaped = w .output-shaped; phase-sound = h }
 
   -- a move after which the worker goes to an edge, and the labels are as they were
   to-hold : {x : Worker} {input output : Bag} (u i : ℕ) → Shaped input → Shaped output → Distance g source u d
-    → ((v : ℕ) → copies v input ≤ copies v (x .input))
-    → ((v : ℕ) → 1 ≤ copies v output → (1 ≤ copies v (x .output)) ⊎ (distanceOf a v ≡ some (suc d)))
-    → ((v j : ℕ) → j < length (edges g v)
+      → ((v : ℕ) → copies v input ≤ copies v (x .input))
+      → ((v : ℕ) → 1 ≤ copies v output → (1 ≤ copies v (x .output)) ⊎ (distanceOf a v ≡ some (suc d)))
+      → ((v j : ℕ) → j < length (edges g v)
       → copies v (x .input) + atOf v j (x .phase) ≤ copies v input + atOf v j (holdAt g u i) + setOne (distanceOf a (target g v j)))
-    → ((v : ℕ) → copies v output ≡ copies v (x .output) + handOf v (x .phase))
-    → ((v : ℕ) → namingOf v (x .phase) ≡ 0)
-    → Moves g source d a a x (worker input output (holdAt g u i))
+      → ((v : ℕ) → copies v output ≡ copies v (x .output) + handOf v (x .phase))
+      → ((v : ℕ) → namingOf v (x .phase) ≡ 0)
+      → Moves g source d a a x (worker input output (holdAt g u i))
   to-hold u i input-shaped output-shaped far inputs-fall outputs-set edges-kept copies-same no-naming = record {
     sound = record {
       input-shaped = input-shaped;
@@ -104,32 +81,32 @@ module _ {g : Graph} {source d : ℕ} {a : Labels} where
 
   -- take: a vertex of the input bag is held instead
   take-moves : {input output : Bag} → Shaped input → Shaped output → isEmpty input ≡ false → Distance g source (takenNumber input) d
-    → Moves g source d a a (worker input output free) (worker (takeRest input) output (holdAt g (takenNumber input) 0))
+      → Moves g source d a a (worker input output free) (worker (takeRest input) output (holdAt g (takenNumber input) 0))
   take-moves {input = input} p q filled far =
       let t = takenNumber input in
       to-hold t 0 (shaped-rest input p) q far
       (λ v. omega (arith, weigh-rest (only v) input p filled))
       (λ v h. inl h)
       (λ v j there.
-        let at : only v t ≤ atOf v j (holdAt g t 0) = test-within (eqb t v) _ (λ e. hold-at g t 0 v j (eqb-true t v e) (omega arith) there) in
-        omega (arith, weigh-rest (only v) input p filled))
+      let at : only v t ≤ atOf v j (holdAt g t 0) = test-within (eqb t v) _ (λ e. hold-at g t 0 v j (eqb-true t v e) (omega arith) there) in
+      omega (arith, weigh-rest (only v) input p filled))
       (λ v. omega arith)
       (λ v. refl)
 
   -- pass on from an edge whose target is set
   pass-moves : {input output : Bag} {u i : ℕ} → WorkerSound g source d a (worker input output (holding u i))
-    → isSet (distanceOf a (target g u i)) ≡ true
-    → Moves g source d a a (worker input output (holding u i)) (worker input output (holdAt g u (suc i)))
+      → isSet (distanceOf a (target g u i)) ≡ true
+      → Moves g source d a a (worker input output (holding u i)) (worker input output (holdAt g u (suc i)))
   pass-moves {u = u} {i = i} w set = to-hold u (suc i) (w .input-shaped) (w .output-shaped) (w .phase-sound .far)
-    (λ v. omega arith)
-    (λ v h. inl h)
-    (λ v j there. omega (arith, passes g a u i v j set there))
-    (λ v. omega arith)
-    (λ v. refl)
+      (λ v. omega arith)
+      (λ v h. inl h)
+      (λ v j there. omega (arith, passes g a u i v j set there))
+      (λ v. omega arith)
+      (λ v. refl)
 
   -- stow: the vertex in hand goes into the output bag
   stow-moves : {input output : Bag} {u i t : ℕ} → WorkerSound g source d a (worker input output (named u i t))
-    → Moves g source d a a (worker input output (named u i t)) (worker input (bagInsert t output) (holdAt g u (suc i)))
+      → Moves g source d a a (worker input output (named u i t)) (worker input (bagInsert t output) (holdAt g u (suc i)))
   stow-moves {output = output} {u = u} {i = i} {t = t} w =
       let h = w .phase-sound in
       to-hold u (suc i) (w .input-shaped) (shaped-insert t output (w .output-shaped)) (h .found .at .far)
@@ -147,28 +124,28 @@ module _ {g : Graph} {source : ℕ} (ground : Ground g source) where
   module _ {d : ℕ} {a : Labels} (l : LabelsSound g source d a) where
     -- an unset target comes into hand
     hand-moves : {input output : Bag} {u i : ℕ} → WorkerSound g source d a (worker input output (holding u i))
-      → isSet (distanceOf a (target g u i)) ≡ false
-      → Moves g source d a a (worker input output (holding u i)) (worker input output (inHand u i (target g u i)))
+        → isSet (distanceOf a (target g u i)) ≡ false
+        → Moves g source d a a (worker input output (holding u i)) (worker input output (inHand u i (target g u i)))
     hand-moves {output = output} {u = u} {i = i} w unset = record {
-        sound = in-phase w (record { at = w .phase-sound; leads = refl; next = unset-next ground l (w .phase-sound) unset });
-        keeps = λ v k e. e;
-        inputs-fall = λ v. omega arith;
-        outputs-set = λ v h. inl h;
-        edges-kept = λ v j near there h. omega arith;
-        copies-kept = λ v. omega arith;
-        newly-set = λ v e s. not-both e s;
-        copies-added = λ v. added v (eqb (target g u i) v) refl;
-        parents-kept = λ v. inl (omega arith);
-      }
+      sound = in-phase w (record { at = w .phase-sound; leads = refl; next = unset-next ground l (w .phase-sound) unset });
+      keeps = λ v k e. e;
+      inputs-fall = λ v. omega arith;
+      outputs-set = λ v h. inl h;
+      edges-kept = λ v j near there h. omega arith;
+      copies-kept = λ v. omega arith;
+      newly-set = λ v e s. not-both e s;
+      copies-added = λ v. added v (eqb (target g u i) v) refl;
+      parents-kept = λ v. inl (omega arith);
+    }
       where
         added : (v : ℕ) (b : Bool) → eqb (target g u i) v ≡ b
-          → (copies v output + cond b 1 0 ≡ copies v output + 0) ⊎ ((distanceOf a v ≡ none) × (copies v output ≡ copies v output))
+            → (copies v output + cond b 1 0 ≡ copies v output + 0) ⊎ ((distanceOf a v ≡ none) × (copies v output ≡ copies v output))
         added v true q = inr (unset-none (distanceOf a v) (rw (eqb-true (target g u i) v q) at unset), refl)
         added v false q = inl refl
 
     -- mark: the vertex in hand gets its distance
     mark-moves : {input output : Bag} {u i t : ℕ} → WorkerSound g source d a (worker input output (inHand u i t))
-      → Moves g source d a (mark d t a) (worker input output (inHand u i t)) (worker input output (marked u i t))
+        → Moves g source d a (mark d t a) (worker input output (inHand u i t)) (worker input output (marked u i t))
     unfolding mark
     mark-moves {t = t} w =
         let next = w .phase-sound .next in
@@ -180,15 +157,15 @@ module _ {g : Graph} {source : ℕ} (ground : Ground g source) where
           edges-kept = λ v j near there h. omega arith;
           copies-kept = λ v. omega arith;
           newly-set = λ v e s. mark-cases ground l next v (distanceOf (mark d t a) v) refl
-            (λ q r. let here : only v t ≡ 1 = rw q (only-self t) in omega arith)
-            (λ apart r. not-both (sym r ∙ e) s);
+              (λ q r. let here : only v t ≡ 1 = rw q (only-self t) in omega arith)
+              (λ apart r. not-both (sym r ∙ e) s);
           copies-added = λ v. inl refl;
           parents-kept = λ v. inl (omega arith);
         }
 
     -- name: the vertex in hand gets its parent
     name-moves : {input output : Bag} {u i t : ℕ} → WorkerSound g source d a (worker input output (marked u i t))
-      → Moves g source d a (name u t a) (worker input output (marked u i t)) (worker input output (named u i t))
+        → Moves g source d a (name u t a) (worker input output (marked u i t)) (worker input output (named u i t))
     unfolding name
     name-moves {u = u} {t = t} w = record {
       sound = in-phase w (record { found = w .phase-sound .found; marked = w .phase-sound .marked });
@@ -200,8 +177,8 @@ module _ {g : Graph} {source : ℕ} (ground : Ground g source) where
       newly-set = λ v e s. not-both e s;
       copies-added = λ v. inl refl;
       parents-kept = λ v. name-cases ground l (w .phase-sound) v (parentOf (name u t a) v) refl
-        (λ q r. inr (rw (← r) (omega arith)))
-        (λ apart r. inl (rw (ne-eqb t v (λ q. apart (sym q)), r) (omega arith)));
+          (λ q r. inr (rw (← r) (omega arith)))
+          (λ apart r. inl (rw (ne-eqb t v (λ q. apart (sym q)), r) (omega arith)));
     }
 
     -- what a move leaves, if its condition is met: sound labels, and what is claimed of the sums
@@ -211,12 +188,13 @@ module _ {g : Graph} {source : ℕ} (ground : Ground g source) where
 
     -- the move of each phase leaves that
     move-each : (input output : Bag) (phase : Phase) → WorkerSound g source d a (worker input output phase)
-      → ((v : ℕ) → 1 ≤ copies v input → Distance g source v d) → AfterMove (worker input output phase) (move g d a input output phase)
+        → ((v : ℕ) → 1 ≤ copies v input → Distance g source v d) → AfterMove (worker input output phase) (move g d a input output phase)
     unfolding move look
     move-each input output free w near = go (isEmpty input) refl
       where
         after : Worker × Labels
         after = (worker (takeRest input) output (holdAt g (takenNumber input) 0), a)
+
         go : (b : Bool) → isEmpty input ≡ b → AfterMove (worker input output free) (cond b none (some after))
         go true q = tt
         go false q = (l, take-moves (w .input-shaped) (w .output-shaped) q (near (takenNumber input) (taken-held input q)))
@@ -224,6 +202,7 @@ module _ {g : Graph} {source : ℕ} (ground : Ground g source) where
       where
         after : Bool → Worker × Labels
         after b = (worker input output (cond b (holdAt g u (suc i)) (inHand u i (target g u i))), a)
+
         go : (b : Bool) → isSet (distanceOf a (target g u i)) ≡ b → AfterMove (worker input output (holding u i)) (some (after b))
         go true q = (l, pass-moves w q)
         go false q = (l, hand-moves w q)
@@ -233,12 +212,12 @@ module _ {g : Graph} {source : ℕ} (ground : Ground g source) where
 
   -- a move keeps the labels sound
   pub move-sound : {d : ℕ} {a : Labels} {x : Worker} {m : Worker × Labels} → LabelsSound g source d a → WorkerSound g source d a x
-    → ((v : ℕ) → 1 ≤ copies v (x .input) → Distance g source v d) → move g d a (x .input) (x .output) (x .phase) ≡ some m
-    → LabelsSound g source d (m .1)
+      → ((v : ℕ) → 1 ≤ copies v (x .input) → Distance g source v d) → move g d a (x .input) (x .output) (x .phase) ≡ some m
+      → LabelsSound g source d (m .1)
   move-sound {x = x} l w near e = (rw e at (move-each l (x .input) (x .output) (x .phase) w near)) .0
 
   -- and it does to the sums what is claimed of a move
   pub move-moves : {d : ℕ} {a : Labels} {x : Worker} {m : Worker × Labels} → LabelsSound g source d a → WorkerSound g source d a x
-    → ((v : ℕ) → 1 ≤ copies v (x .input) → Distance g source v d) → move g d a (x .input) (x .output) (x .phase) ≡ some m
-    → Moves g source d a (m .1) x (m .0)
+      → ((v : ℕ) → 1 ≤ copies v (x .input) → Distance g source v d) → move g d a (x .input) (x .output) (x .phase) ≡ some m
+      → Moves g source d a (m .1) x (m .0)
   move-moves {x = x} l w near e = (rw e at (move-each l (x .input) (x .output) (x .phase) w near)) .1

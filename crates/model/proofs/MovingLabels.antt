@@ -1,30 +1,22 @@
 -- The labels before and after the moves that write: where the target in hand belongs, and that a mark and a name keep the labels sound.
 use mathlib.Core.Path.{_≡_, refl, sym, _∙_}
 use mathlib.Core.Bool.{Bool, true, false, true≢false}
-use mathlib.Core.List.{List}
 use mathlib.Core.Option.{Option, none, some, Option·some-injective}
 use Prim.Native.Nat.{ℕ, suc, _+_, _≤_, _<_}
 use native.Mathlib.Omega.{arith}
-use lib.Dec.{eqb, leb}
-use lib.ListN.{length, getD, set, length-set}
+use lib.Dec.{leb}
+use lib.ListN.{length, set, length-set}
 use lib.Seq.{getD-set-same, getD-set-other}
-use borrow.Author.Tests.{eqb-true, eqb-false, leb-true, leb-false}
+use borrow.Author.Tests.{leb-true, leb-false}
 use Rattle.lists.proofs.Sums.{sum-set}
+use Rattle.lists.proofs.Replaced.{set-cases}
 use Rattle.graph.specs.Graph.{Graph}
 use Rattle.model.specs.Paths.{target, Walk, onward, Distance, Labels, distanceOf, parentOf, isSet, Nearer}
 use Rattle.model.specs.Table.{mark, name}
 use Rattle.model.proofs.Counts.{unsetOne, unsets}
 use Rattle.model.proofs.Sound.{Ground, LabelsSound, AtEdge, WithMark}
-use Rattle.model.proofs.Walks.{walk-below, distance-unique, distance-source, set-value}
-
--- a list with one element replaced holds at a place the new element, or what it held before
-pub set-cases : {A R : Type 0} (l : List A) (i j : ℕ) (y d x : A) → i < length l → getD (set l i y) j d ≡ x
-  → (j ≡ i → y ≡ x → R) → ((j ≡ i → ⊥) → getD l j d ≡ x → R) → R
-set-cases {R = R} l i j y d x h e here there = go (eqb j i) refl
-  where
-    go : (b : Bool) → eqb j i ≡ b → R
-    go true q = let same = eqb-true j i q in here same (sym (getD-set-same l i y d h) ∙ (rw same at e))
-    go false q = there (eqb-false j i q) (sym (getD-set-other l i j y d (eqb-false j i q)) ∙ e)
+use Rattle.model.proofs.Walks.{walk-below, distance-unique, distance-source}
+use Rattle.model.proofs.LabelFacts.{set-value, layer-is}
 
 -- a parent that is nearer stays so while the distances that are set stay
 nearer-kept : {g : Graph} {a b : Labels} {p v : ℕ} → ((u k : ℕ) → distanceOf a u ≡ some k → distanceOf b u ≡ some k) → Nearer g a p v → Nearer g b p v
@@ -36,18 +28,12 @@ module _ {g : Graph} {source : ℕ} (ground : Ground g source) {d : ℕ} {a : La
   written-is : {v k j : ℕ} → distanceOf a v ≡ some k → Distance g source v j → k ≡ j
   written-is {v = v} {k = k} e far = distance-unique (l .written v k e) far
 
-  -- a vertex of this layer has its distance
-  near-set : {u : ℕ} → Distance g source u d → distanceOf a u ≡ some d
-  near-set {u = u} far =
-      let v = set-value (distanceOf a u) (l .near u d (far .walk) (omega arith)) in
-      rw (written-is (v .is) far) at (v .is)
-
   -- the unset target of an edge of this layer is in the next one
   pub unset-next : {u i : ℕ} → AtEdge g source d u i → isSet (distanceOf a (target g u i)) ≡ false → Distance g source (target g u i) (suc d)
   unset-next {u = u} {i = i} at unset = record {
-      walk = onward (at .far .walk) (record { place = i; there = at .there; leads = refl });
-      least = λ k w. go k w (leb k d) refl;
-    }
+    walk = onward (at .far .walk) (record { place = i; there = at .there; leads = refl });
+    least = λ k w. go k w (leb k d) refl;
+  }
     where
       go : (k : ℕ) → Walk g source (target g u i) k → (b : Bool) → leb k d ≡ b → suc d ≤ k
       go k w true q = absurd (true≢false (sym (l .near (target g u i) k w (leb-true k d q)) ∙ unset))
@@ -69,15 +55,15 @@ module _ {g : Graph} {source : ℕ} (ground : Ground g source) {d : ℕ} {a : La
 
     -- a distance after a mark is that of the vertex marked, or is as it was
     pub mark-cases : {R : Type 0} (v : ℕ) (x : Option ℕ) → distanceOf (mark d t a) v ≡ x
-      → (v ≡ t → some (suc d) ≡ x → R) → ((v ≡ t → ⊥) → distanceOf a v ≡ x → R) → R
+        → (v ≡ t → some (suc d) ≡ x → R) → ((v ≡ t → ⊥) → distanceOf a v ≡ x → R) → R
     unfolding mark
     mark-cases v x e here there = set-cases (a .distances) t v (some (suc d)) none x has-distance e here there
 
     -- what is set stays as it is set
     pub mark-keeps : (v k : ℕ) → distanceOf a v ≡ some k → distanceOf (mark d t a) v ≡ some k
     mark-keeps v k e = mark-cases v (distanceOf (mark d t a) v) refl
-      (λ q r. let same = written-is (rw q at e) next in sym r ∙ rw same)
-      (λ apart r. sym r ∙ e)
+        (λ q r. let same = written-is (rw q at e) next in sym r ∙ rw same)
+        (λ apart r. sym r ∙ e)
 
     -- each layer up to that of the vertex marked has a vertex that is set
     mark-room : d + 2 + unsets (mark d t a .distances) ≤ length g
@@ -86,6 +72,7 @@ module _ {g : Graph} {source : ℕ} (ground : Ground g source) {d : ℕ} {a : La
       where
         after : ℕ
         after = unsets (set (a .distances) t (some (suc d)))
+
         go : (x : Option ℕ) → distanceOf a t ≡ x → after + unsetOne (distanceOf a t) ≡ unsets (a .distances) + 0 → d + 2 + after ≤ length g
         go none e h = omega (arith, rw e at h, l .room)
         go (some k) e h = omega (arith, rw e at h, l .more-room t (rw (written-is e next) at e))
@@ -112,7 +99,7 @@ module _ {g : Graph} {source : ℕ} (ground : Ground g source) {d : ℕ} {a : La
 
     -- a parent after a name is that of the vertex named, or is as it was
     pub name-cases : {R : Type 0} (v : ℕ) (x : Option ℕ) → parentOf (name u t a) v ≡ x
-      → (v ≡ t → some u ≡ x → R) → ((v ≡ t → ⊥) → parentOf a v ≡ x → R) → R
+        → (v ≡ t → some u ≡ x → R) → ((v ≡ t → ⊥) → parentOf a v ≡ x → R) → R
     unfolding name
     name-cases v x e here there = set-cases (a .parents) t v (some u) none x (has-parent (w .found .next)) e here there
 
@@ -122,7 +109,7 @@ module _ {g : Graph} {source : ℕ} (ground : Ground g source) {d : ℕ} {a : La
     name-nearer = record {
       link = record { place = i; there = w .found .at .there; leads = w .found .leads };
       depth = d;
-      here = near-set (w .found .at .far);
+      here = layer-is l u (w .found .at .far);
       there = w .marked;
     }
 
@@ -139,6 +126,6 @@ module _ {g : Graph} {source : ℕ} (ground : Ground g source) {d : ℕ} {a : La
       more-room = l .more-room;
       own-parent = getD-set-other (a .parents) t source (some u) none name-apart ∙ l .own-parent;
       parent = λ v p apart e. name-cases v (some p) e
-        (λ q r. rw (q, ← Option·some-injective u p r) name-nearer)
-        (λ other r. nearer-kept (λ z k s. s) (l .parent v p apart r));
+          (λ q r. rw (q, ← Option·some-injective u p r) name-nearer)
+          (λ other r. nearer-kept (λ z k s. s) (l .parent v p apart r));
     }

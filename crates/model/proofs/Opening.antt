@@ -1,16 +1,17 @@
 -- The opening state is sound and opens layer 0: the source alone is labelled, and it is alone in worker 0's input bag.
 use mathlib.Core.Path.{_≡_, refl, ap, _∙_}
-use mathlib.Core.Bool.{Bool, true, false, cond}
+use mathlib.Core.Bool.{Bool, true, false}
 use mathlib.Core.List.{List}
 use mathlib.Core.Option.{Option, none, some}
-use Prim.Native.Nat.{ℕ, zero, suc, _+_, _*_, _≤_, _<_}
+use Prim.Native.Nat.{ℕ, _+_, _≤_, _<_}
 use native.Mathlib.Omega.{arith}
 use lib.Dec.{eqb}
 use lib.ListN.{length, getD, set, replicate, length-set, length-replicate}
 use lib.Seq.{getD-set-same, getD-set-other}
 use borrow.Author.Tests.{eqb-true, eqb-false}
-use Rattle.lists.specs.Lists.{sumOf}
-use Rattle.lists.proofs.Sums.{sum-set}
+use Rattle.lists.proofs.Sums.{sum-set, sum-replicate}
+use Rattle.lists.proofs.Parts.{getD-repeated}
+use Rattle.lists.proofs.Tests.{test-within}
 use Rattle.graph.specs.Graph.{Graph}
 use Rattle.pennant.specs.Bag.{emptyBag, bagInsert}
 use Rattle.pennant.specs.Held.{only, copies}
@@ -20,22 +21,9 @@ use Rattle.model.specs.State.{idleWorker, openingLabels, openingState}
 use Rattle.model.specs.Demand.{LayerOpen}
 use Rattle.model.proofs.Counts.{unsetOne, unsets}
 use Rattle.model.proofs.Sound.{Ground, LabelsSound, Sound}
-use Rattle.model.proofs.Walks.{walk-zero, distance-source, set-value}
+use Rattle.model.proofs.Walks.{walk-zero, distance-source}
+use Rattle.model.proofs.LabelFacts.{set-value}
 use Rattle.model.proofs.Fresh.{spare-idle, SpareCrew, LayerBag, fresh-sound, fresh-opens}
-
--- Lists.
-
--- n times a has a everywhere, and past its end if that is read as a too
-pub getD-same : {A : Type 0} (n i : ℕ) (a : A) → getD (replicate n a) i a ≡ a
-getD-same zero i a = refl
-getD-same (suc n) zero a = refl
-getD-same (suc n) (suc i) a = getD-same n i a
-
--- n times a weighs n times what a weighs
-pub sum-replicate : {A : Type 0} (f : A → ℕ) (n : ℕ) (a : A) → sumOf f (replicate n a) ≡ n * f a
-unfolding sumOf
-sum-replicate f zero a = omega arith
-sum-replicate f (suc n) a = omega (arith, sum-replicate f n a)
 
 module _ {g : Graph} {source : ℕ} (ground : Ground g source) where
   -- Labels.
@@ -67,7 +55,7 @@ module _ {g : Graph} {source : ℕ} (ground : Ground g source) where
       go : (b : Bool) → eqb v source ≡ b → (v ≡ source) × (k ≡ y)
       go true q = let same = eqb-true v source q in let own = alone-own y in (same, cc)
       go false q =
-          let other = getD-set-other unlabelled source v (some y) none (eqb-false v source q) ∙ getD-same (length g) v none in
+          let other = getD-set-other unlabelled source v (some y) none (eqb-false v source q) ∙ getD-repeated (length g) v none in
           let z : _≡_ {A = ℕ} 0 1 = cc in
           absurd (omega arith)
 
@@ -75,7 +63,7 @@ module _ {g : Graph} {source : ℕ} (ground : Ground g source) where
   alone-unsets : (y : ℕ) → 1 + unsets (alone y) ≡ length g
   alone-unsets y =
       let replaced = sum-set unsetOne unlabelled source (some y) none source-there in
-      omega (arith, sum-replicate unsetOne (length g) none, ap unsetOne (getD-same (length g) source none))
+      omega (arith, sum-replicate unsetOne (length g) none, ap unsetOne (getD-repeated (length g) source none))
 
   -- the opening labels are sound
   opening-labels : LabelsSound g source 0 (openingLabels (length g) source)
@@ -103,7 +91,7 @@ module _ {g : Graph} {source : ℕ} (ground : Ground g source) where
   opening-bag P p = record {
     every = λ v far. rw (walk-zero (far .walk) refl) (omega (arith, opening-copies source, only-self source));
     no-other = λ v h. there v (eqb source v) refl (omega (arith, opening-copies v));
-    at-most = λ v. omega (arith, opening-copies v, few (eqb source v));
+    at-most = λ v. omega (arith, opening-copies v, test-within (eqb source v) 1 (λ e. omega arith));
     shaped = shaped-insert source emptyBag shaped-empty;
   }
     where
@@ -112,14 +100,9 @@ module _ {g : Graph} {source : ℕ} (ground : Ground g source) where
       there v true e h = rw (← eqb-true source v e) distance-source
       there v false e h = absurd (omega (arith, rw e at h))
 
-      -- once
-      few : (b : Bool) → cond b 1 0 ≤ 1
-      few true = omega arith
-      few false = omega arith
-
   -- all bags are empty before that
   opening-crew : (P : ℕ) → 1 ≤ P → SpareCrew P (replicate P idleWorker)
-  opening-crew P p = record { some-worker = p; crew = length-replicate P idleWorker; each = λ w. rw (getD-same P w idleWorker) spare-idle }
+  opening-crew P p = record { some-worker = p; crew = length-replicate P idleWorker; each = λ w. rw (getD-repeated P w idleWorker) spare-idle }
 
   -- the opening state is sound
   pub opening-sound : (P : ℕ) → 1 ≤ P → Sound g source P (openingState (length g) source P)

@@ -17,9 +17,10 @@ use Rattle.schedule.specs.declared.Event.the-variants.{Work, Split, Unite, Clos
 use Rattle.schedule.specs.Events.{eventOf}
 use Rattle.schedule.proofs.Bytes.{event-work, event-close}
 use Rattle.model.specs.Paths.{Labels}
-use Rattle.model.specs.State.{Phase, free, holding, inHand, marked, named, Worker, State, workerAt}
-use Rattle.model.specs.Table.{move, moved, splitInputs, uniteOutputs, isFree, allIdle, united, closed, act, handedIn, withWorkers}
+use Rattle.model.specs.State.{Phase, free, holding, inHand, marked, named, Worker, worker, State, workerAt}
+use Rattle.model.specs.Table.{move, moved, splitInputs, uniteOutputs, allIdle, united, closed, act, handedIn, withWorkers}
 use Rattle.model.specs.Play.{Run, tally, step, playFrom, roundBytes, startsWith, rounds}
+use Rattle.model.proofs.Workers.{effective, Idle, all-idle}
 
 -- no event adds or removes a worker
 
@@ -32,8 +33,7 @@ moved-crew s t w (some m) e =
 
 -- where the condition is met, the state is the one after
 crew-after : (s t u : State) (b : Bool) → length (u .workers) ≡ length (s .workers) → cond b (some u) none ≡ some t → length (t .workers) ≡ length (s .workers)
-crew-after s t u true same e = let after : u ≡ t = cc in rw (← after) same
-crew-after s t u false same e = let z : _≡_ {A = ℕ} 0 1 = cc in absurd (omega arith)
+crew-after s t u b same e = rw (← effective b u t e .1) same
 
 closed-crew : (s : State) (bag : Bag) (b : Bool) → isEmpty bag ≡ b → length (closed s bag .workers) ≡ length (s .workers)
 unfolding closed
@@ -118,11 +118,11 @@ play-unfinished g r schedule true e h =
 
 -- One round.
 
--- a worker that cannot move is free and its input bag is empty
+-- a worker that cannot move is idle
 stuck-idle : (g : Graph) (d : ℕ) (x : Labels) (input output : Bag) (phase : Phase) (b : Bool) → isEmpty input ≡ b → move g d x input output phase ≡ none
-  → (isFree phase ≡ true) × (isEmpty input ≡ true)
-unfolding move isFree
-stuck-idle g d x input output free true e h = (refl, e)
+    → Idle (worker input output phase)
+unfolding move
+stuck-idle g d x input output free true e h = record { input-empty = e; phase-free = refl }
 stuck-idle g d x input output free false e h = let k = rw e at h in let z : _≡_ {A = ℕ} 0 1 = cc in absurd (omega arith)
 stuck-idle g d x input output (holding u i) b e h = let z : _≡_ {A = ℕ} 0 1 = cc in absurd (omega arith)
 stuck-idle g d x input output (inHand u i t) b e h = let z : _≡_ {A = ℕ} 0 1 = cc in absurd (omega arith)
@@ -135,16 +135,6 @@ unfolding moved
 act-stuck s w none h = refl
 act-stuck s w (some m) h = let z : _≡_ {A = ℕ} 0 1 = cc in absurd (omega arith)
 
--- a worker without a move is free with an empty input bag
-Idle : Worker → Type 0
-Idle w = (isFree (w .phase) ≡ true) × (isEmpty (w .input) ≡ true)
-
--- workers of which each is idle are all idle
-all-idle : (workers : List Worker) → ((w : ℕ) → w < length workers → Idle (workerAt workers w)) → allIdle workers ≡ true
-unfolding Idle allIdle
-all-idle [] h = refl
-all-idle (w ∷ workers) h = rw (h 0 (omega arith) .0, h 0 (omega arith) .1) (all-idle workers (λ i k. h (suc i) (omega arith)))
-
 -- a close where all are idle is effective
 act-close : (g : Graph) (s : State) → allIdle (s .workers) ≡ true → act g s Close ≡ some (closed s (united (s .workers)))
 unfolding act
@@ -152,7 +142,7 @@ act-close g s e = ap (λ (b : Bool). cond b (some (closed s (united (s .workers)
 
 -- a work that isn't effective is that of an idle worker
 work-idle : (g : Graph) (s : State) (w : ℕ) → act g s (Work w) ≡ none → Idle (workerAt (s .workers) w)
-unfolding act Idle
+unfolding act
 work-idle g s w h =
     let x = workerAt (s .workers) w in
     stuck-idle g (s .layer) (s .labels) (x .input) (x .output) (x .phase) _ refl (act-stuck s w (move g (s .layer) (s .labels) (x .input) (x .output) (x .phase)) h)
@@ -173,24 +163,27 @@ roundFrom j k = map (λ (w : ℕ). 8 * w) (numbersFrom j k) ++ 192 ∷ []
 
 -- where the workers before j are idle, one of the events of a round from j on is effective
 round-grows : (g : Graph) (P : ℕ) → P ≤ 8 → (k j : ℕ) → j + k ≡ P → (r : Run) → r .state .finished ≡ false → length (r .state .workers) ≡ P
-  → ((w : ℕ) → w < j → Idle (workerAt (r .state .workers) w)) → suc (r .effective) ≤ playFrom g r (roundFrom j k) .effective
-unfolding Idle playFrom numbersFrom
+    → ((w : ℕ) → w < j → Idle (workerAt (r .state .workers) w)) → suc (r .effective) ≤ playFrom g r (roundFrom j k) .effective
+unfolding playFrom numbersFrom
 round-grows g P few zero j e r f crew idle =
     let now : act g (r .state) (eventOf 192) ≡ some (closed (r .state) (united (r .state .workers))) =
-          rw event-close (act-close g (r .state) (all-idle (r .state .workers) (λ w h. idle w (omega arith)))) in
+    rw event-close (act-close g (r .state) (all-idle (r .state .workers) (λ w h. idle w (omega arith)))) in
     let counted : step g r 192 .effective ≡ suc (r .effective) =
-          ap (λ (q : Run). q .effective) (step-on g r 192 f) ∙ ap (λ (o : Option State). tally r o .effective) now ∙ tally-some r (closed (r .state) (united (r .state .workers))) in
+    ap (λ (q : Run). q .effective) (step-on g r 192 f) ∙ ap (λ (o : Option State). tally r o .effective) now ∙ tally-some r (closed (r .state) (united (r .state .workers))) in
     omega (arith, counted)
 round-grows g P few (suc k) j e r f crew idle = go (act g (r .state) (Work j)) refl (round-grows g P few k (suc j) (omega arith) (step g r (8 * j)))
   where
     after : (o : Option State) → act g (r .state) (Work j) ≡ o → step g r (8 * j) ≡ tally r o
     after o h = step-on g r (8 * j) f ∙ ap (λ (v : Event). tally r (act g (r .state) v)) (event-work j (omega arith)) ∙ ap (tally r) h
+
     next : (w : ℕ) → w < suc j → (b : Bool) → eqb w j ≡ b → Idle (workerAt (r .state .workers) j) → Idle (workerAt (r .state .workers) w)
     next w below true at here = rw (eqb-true w j at) here
     next w below false at here = idle w (omega (arith, eqb-false w j at))
+
     rest : ℕ → Run → Type 0
     rest i q = q .state .finished ≡ false → length (q .state .workers) ≡ P → ((w : ℕ) → w < i → Idle (workerAt (q .state .workers) w))
-      → suc (q .effective) ≤ playFrom g q (roundFrom i k) .effective
+        → suc (q .effective) ≤ playFrom g q (roundFrom i k) .effective
+
     go : (o : Option State) → act g (r .state) (Work j) ≡ o → rest (suc j) (step g r (8 * j)) → suc (r .effective) ≤ playFrom g (step g r (8 * j)) (roundFrom (suc j) k) .effective
     go none h others =
         let same : step g r (8 * j) .state ≡ r .state = ap (λ (q : Run). q .state) (after none h) ∙ tally-none r .0 in
@@ -206,7 +199,7 @@ round-long P = omega (arith, length-append (map (λ (w : ℕ). 8 * w) (numbersFr
 
 -- a round played from the start of any state that isn't finished
 full-round : (g : Graph) (P : ℕ) → 1 ≤ P → P ≤ 8 → (r : Run) → r .state .finished ≡ false → length (r .state .workers) ≡ P
-  → suc (r .effective) ≤ playFrom g r (roundBytes P) .effective
+    → suc (r .effective) ≤ playFrom g r (roundBytes P) .effective
 unfolding roundBytes
 full-round g P p q r live crew = round-grows g P q P 0 (omega arith) r live crew (λ w h. absurd (omega arith))
 
@@ -225,7 +218,7 @@ starts-split (x ∷ front) [] h = absurd (true≢false (sym h))
 starts-split (x ∷ front) (y ∷ bytes) h = go (eqb x y) refl h (starts-split front bytes)
   where
     go : (b : Bool) → eqb x y ≡ b → b && startsWith front bytes ≡ true → (startsWith front bytes ≡ true → bytes ≡ front ++ drop (length front) bytes)
-      → y ∷ bytes ≡ x ∷ front ++ drop (length front) bytes
+        → y ∷ bytes ≡ x ∷ front ++ drop (length front) bytes
     go true e k rest = rw (eqb-true x y e) (ap (λ (l : List ℕ). y ∷ l) (rest k))
     go false e k rest = absurd (true≢false (sym k))
 
@@ -251,18 +244,18 @@ rounds-round (suc P) p rest h = rw h (omega (arith, rounds-after (suc P) p P 1 (
 -- a schedule that doesn't finish has no more rounds than effective events, if it has at most so many bytes
 abbrev Counted : Graph → ℕ → ℕ → Type 0
 Counted g P most = (r : Run) (schedule : List ℕ) → length schedule ≤ most → length (r .state .workers) ≡ P → playFrom g r schedule .state .finished ≡ false
-  → r .effective + rounds P schedule ≤ playFrom g r schedule .effective
+    → r .effective + rounds P schedule ≤ playFrom g r schedule .effective
 
 -- a byte at which no round starts
 counted-byte : (g : Graph) (P most : ℕ) → Counted g P most → (r : Run) (byte : ℕ) (schedule : List ℕ) → length schedule ≤ most → length (r .state .workers) ≡ P
-  → playFrom g (step g r byte) schedule .state .finished ≡ false → r .effective + rounds P schedule ≤ playFrom g (step g r byte) schedule .effective
+    → playFrom g (step g r byte) schedule .state .finished ≡ false → r .effective + rounds P schedule ≤ playFrom g (step g r byte) schedule .effective
 counted-byte g P most shorter r byte schedule h crew f =
     omega (arith, shorter (step g r byte) schedule h (step-crew g r byte _ refl ∙ crew) f, step-grows g r byte _ refl)
 
 -- a round, and what stands after it
 counted-round : (g : Graph) (P most : ℕ) → 1 ≤ P → P ≤ 8 → Counted g P most → (r : Run) (rest : List ℕ) → length rest ≤ most → length (r .state .workers) ≡ P
-  → r .state .finished ≡ false → playFrom g r (roundBytes P ++ rest) .state .finished ≡ false
-  → suc (r .effective) + rounds P rest ≤ playFrom g r (roundBytes P ++ rest) .effective
+    → r .state .finished ≡ false → playFrom g r (roundBytes P ++ rest) .state .finished ≡ false
+    → suc (r .effective) + rounds P rest ≤ playFrom g r (roundBytes P ++ rest) .effective
 counted-round g P most p q shorter r rest h crew live f =
     let apart : playFrom g r (roundBytes P ++ rest) ≡ playFrom g (playFrom g r (roundBytes P)) rest = play-append g r (roundBytes P) rest in
     let after = playFrom g r (roundBytes P) in
@@ -271,7 +264,7 @@ counted-round g P most p q shorter r rest h crew live f =
 
 -- bytes that start with a round
 counted-start : (g : Graph) (P most : ℕ) → 1 ≤ P → P ≤ 8 → Counted g P most → (r : Run) (bytes : List ℕ) → length bytes ≤ suc most → length (r .state .workers) ≡ P
-  → playFrom g r bytes .state .finished ≡ false → startsWith (roundBytes P) bytes ≡ true → r .effective + rounds P bytes ≤ playFrom g r bytes .effective
+    → playFrom g r bytes .state .finished ≡ false → startsWith (roundBytes P) bytes ≡ true → r .effective + rounds P bytes ≤ playFrom g r bytes .effective
 counted-start g P most p q shorter r bytes h crew f e =
     let rest = drop (length (roundBytes P)) bytes in
     let apart : bytes ≡ roundBytes P ++ rest = starts-split (roundBytes P) bytes e in
@@ -293,13 +286,14 @@ counted-more g P most p q shorter r (byte ∷ schedule) h crew f = go (startsWit
 
 -- the count of rounds
 pub rounds-count : (g : Graph) (P : ℕ) (r : Run) (schedule : List ℕ) → 1 ≤ P → P ≤ 8 → length (r .state .workers) ≡ P → playFrom g r schedule .state .finished ≡ false
-  → r .effective + rounds P schedule ≤ playFrom g r schedule .effective
+    → r .effective + rounds P schedule ≤ playFrom g r schedule .effective
 unfolding rounds playFrom
 rounds-count g P r schedule p q crew f = counted (length schedule) r schedule (omega arith) crew f
   where
     none-left : Counted g P 0
     none-left r [] h crew f = omega arith
     none-left r (byte ∷ l) h crew f = absurd (omega arith)
+
     counted : (most : ℕ) → Counted g P most
     counted zero = none-left
     counted (suc most) = counted-more g P most p q (counted most)

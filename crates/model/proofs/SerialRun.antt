@@ -15,13 +15,14 @@ use lib.Seq.{getD-set-same, getD-set-other, ext-getD}
 use borrow.Author.Tests.{eqb-true, eq-eqb}
 use Rattle.lists.specs.Lists.{numbersFrom}
 use Rattle.lists.proofs.Or.{or-none}
+use Rattle.lists.proofs.Members.{keep, keep-order, kept, keeps, in-rows, row-of, range-in, in-range}
+use Rattle.lists.proofs.Parts.{place-below, getD-repeated}
 use Rattle.graph.specs.Graph.{Graph, edges}
 use Rattle.model.specs.Paths.{target, Joins, Labels, distanceOf, parentOf, isSet, Certified}
 use Rattle.model.specs.State.{openingLabels}
 use Rattle.model.specs.Table.{mark, name}
 use Rattle.model.specs.Serial.{Link, linksFrom, isAt, layerLinks, follow, anyAt, Serial, ended, layer}
 use Rattle.model.proofs.Sound.{Ground}
-use Rattle.model.proofs.Members.{keep, keep-order, kept, keeps, in-rows, row-of, range-in, in-range, place-below, getD-repeated}
 
 -- a label that passes the test for d is set to d
 at-is : (d : ℕ) (o : Option ℕ) → isAt d o ≡ true → o ≡ some d
@@ -41,7 +42,7 @@ at-some d [] e = absurd (true≢false (sym e))
 at-some d (o ∷ l) e = go (isAt d o) refl e (at-some d l)
   where
     go : (b : Bool) → isAt d o ≡ b → (b || anyAt d l) ≡ true → (anyAt d l ≡ true → (v : ℕ) × (getD l v none ≡ some d))
-      → (v : ℕ) × (getD (o ∷ l) v none ≡ some d)
+        → (v : ℕ) × (getD (o ∷ l) v none ≡ some d)
     go true q f rest = (0, at-is d o q)
     go false q f rest = let r = rest f in (suc (r .0), r .1)
 
@@ -158,18 +159,24 @@ module _ (g : Graph) (x : Labels) (d : ℕ) where
     where
       t : ℕ
       t = end e
+
       z : Labels
       z = name (e .start) t (mark d t y)
+
       now : distanceOf z t ≡ some (suc d)
       now = getD-set-same (y .distances) t (some (suc d)) none (rw (p .distances-all) (place-below (x .distances) t (h .far)))
+
       by : parentOf z t ≡ some (e .start)
       by = getD-set-same (y .parents) t (some (e .start)) none (rw (p .parents-all) (place-below (x .parents) t (h .named)))
+
       stand : (v : ℕ) → Dec (v ≡ t) → Stands x d v (distanceOf z v) (parentOf z v)
       stand v (yes q) = rw q (final (suc d) (h .far) now (by ∙ sym (h .named)))
       stand v (no q) = rw (getD-set-other (y .distances) t v (some (suc d)) none q, getD-set-other (y .parents) t v (some (e .start)) none q) (p .each v)
+
       stay : (v k : ℕ) → distanceOf y t ≡ none → distanceOf y v ≡ some k → Dec (v ≡ t) → distanceOf z v ≡ some k
       stay v k f r (yes q) = absurd (Option·none-ne-some k (sym f ∙ rw q at r))
       stay v k f r (no q) = getD-set-other (y .distances) t v (some (suc d)) none q ∙ r
+
       go : (o : Option ℕ) → distanceOf y t ≡ o → Followed y (e ∷ []) (cond (isSet o) y z)
       go (some k) q = record {
         partly = p;
@@ -188,7 +195,7 @@ module _ (g : Graph) (x : Labels) (d : ℕ) where
 
   -- many of them
   follow-tree : (y : Labels) (links : List Link) → Partly x d y → ((e : Link) → List·Memᴰ e links → Tree e)
-    → Followed y links (foldl (follow g d) y links)
+      → Followed y links (foldl (follow g d) y links)
   follow-tree y [] p h = record { partly = p; stays = λ v k r. r; reached = λ e m. absurd (List·Memᴰ·not-nil m) }
   follow-tree y (e ∷ links) p h =
       let one = follow-one y e p (h e (List·Memᴰ·head refl)) in
@@ -201,14 +208,15 @@ module _ (g : Graph) (x : Labels) (d : ℕ) where
     where
       after : Labels
       after = foldl (follow g d) (follow g d y e) links
+
       go : (f : Link) → distanceOf (follow g d y e) (end e) ≡ some (suc d) → Followed (follow g d y e) links after
-        → (f ≡ e) ⊎ List·Memᴰ f links → distanceOf after (end f) ≡ some (suc d)
+          → (f ≡ e) ⊎ List·Memᴰ f links → distanceOf after (end f) ≡ some (suc d)
       go f now rest (inl q) = rw q (rest .stays (end e) (suc d) now)
       go f now rest (inr m) = rest .reached f m
 
   -- links whose ends are set change nothing
   follow-rest : (y : Labels) (links : List Link) → ((e : Link) → List·Memᴰ e links → isSet (distanceOf y (end e)) ≡ true)
-    → foldl (follow g d) y links ≡ y
+      → foldl (follow g d) y links ≡ y
   unfolding follow
   follow-rest y [] h = refl
   follow-rest y (e ∷ links) h = rw (h e (List·Memᴰ·head refl)) (follow-rest y links (λ f m. h f (List·Memᴰ·tail m)))
@@ -249,17 +257,20 @@ module _ {g : Graph} {source : ℕ} {x : Labels} (c : Certified g source x) wher
   opening-partly : Partly x 0 (openingLabels (length g) source)
   unfolding openingLabels
   opening-partly = record {
-      distances-all = length-set (replicate n none) source (some 0) ∙ length-replicate n none ∙ sym (c .distances-all);
-      parents-all = length-set (replicate n none) source (some source) ∙ length-replicate n none ∙ sym (c .parents-all);
-      each = λ v. go v (ℕ-discrete v source);
-    }
+    distances-all = length-set (replicate n none) source (some 0) ∙ length-replicate n none ∙ sym (c .distances-all);
+    parents-all = length-set (replicate n none) source (some source) ∙ length-replicate n none ∙ sym (c .parents-all);
+    each = λ v. go v (ℕ-discrete v source);
+  }
     where
       n : ℕ
       n = length g
+
       inside : source < length (replicate {A = Option ℕ} n none)
       inside = rw (length-replicate {A = Option ℕ} n none) (vertex-below source 0 (c .source))
+
       y : Labels
       y = openingLabels n source
+
       go : (v : ℕ) → Dec (v ≡ source) → Stands x 0 v (distanceOf y v) (parentOf y v)
       go v (yes q) = rw q (final 0 (c .source) (getD-set-same (replicate n none) source (some 0) none inside)
           (getD-set-same (replicate n none) source (some source) none inside ∙ sym (c .own-parent)))
@@ -270,17 +281,19 @@ module _ {g : Graph} {source : ℕ} {x : Labels} (c : Certified g source x) wher
   -- labels on the way from distance d on, in which no vertex has distance d, are x
   whole : (d : ℕ) (y : Labels) → Partly x d y → anyAt d (y .distances) ≡ false → y ≡ x
   whole d y p h = λ i. record {
-      distances = ext-getD none (y .distances) (x .distances) (p .distances-all) (λ v l. agree v (rw (p .distances-all ∙ c .distances-all) at l) .0) i;
-      parents = ext-getD none (y .parents) (x .parents) (p .parents-all) (λ v l. agree v (rw (p .parents-all ∙ c .parents-all) at l) .1) i;
-    }
+    distances = ext-getD none (y .distances) (x .distances) (p .distances-all) (λ v l. agree v (rw (p .distances-all ∙ c .distances-all) at l) .0) i;
+    parents = ext-getD none (y .parents) (x .parents) (p .parents-all) (λ v l. agree v (rw (p .parents-all ∙ c .parents-all) at l) .1) i;
+  }
     where
       none-here : (v : ℕ) → distanceOf x v ≡ some d → ⊥
       none-here v e = at-none d (y .distances) h v (near-set p v d e (omega arith))
+
       none-above : (v : ℕ) → ((k : ℕ) → distanceOf x v ≡ some k → d < k) → (o : Option ℕ) → distanceOf x v ≡ o → o ≡ none
       none-above v away none e = refl
       none-above v away (some k) e =
           let far = away k e in
           absurd (none-beyond d none-here (k - d) v (e ∙ ap {B = Option ℕ} some (omega arith)))
+
       agree : (v : ℕ) → v < length g → (distanceOf y v ≡ distanceOf x v) × (parentOf y v ≡ parentOf x v)
       agree v l = go (p .each v)
         where
@@ -305,14 +318,19 @@ module _ {g : Graph} {source : ℕ} {x : Labels} (c : Certified g source x) wher
     where
       links : List Link
       links = layerLinks g d y
+
       first : List Link
       first = keep (isTree g x d) links
+
       rest : List Link
       rest = keep (λ (e : Link). not (isTree g x d e)) links
+
       z : Labels
       z = foldl (follow g d) y first
+
       done : Followed g x d y first z
       done = follow-tree g x d y first p (λ e m. tree-is g x d e (kept (isTree g x d) links m .1))
+
       next-set : (v k : ℕ) → distanceOf x v ≡ some k → k ≤ suc d → distanceOf z v ≡ some k
       next-set v k e l = go (ℕ-discrete k (suc d))
         where
@@ -325,6 +343,7 @@ module _ {g : Graph} {source : ℕ} {x : Labels} (c : Certified g source x) wher
               let among : List·Memᴰ f links = layer-has g d y f (vertex-below (a .parent) d (a .near)) starts in
               rw (a .link .leads, ← q) at (done .reached f (keeps (isTree g x d) among (is-tree g x d by-it)))
           go (no q) = near-set (done .partly) v k e (omega arith)
+
       rest-set : (e : Link) → List·Memᴰ e rest → isSet (distanceOf z (target g (e .start) (e .place))) ≡ true
       rest-set e m =
           let l = layer-only g d y e (kept (λ (f : Link). not (isTree g x d f)) links m .0) in
@@ -334,7 +353,7 @@ module _ {g : Graph} {source : ℕ} {x : Labels} (c : Certified g source x) wher
 
   -- the run from distance d on
   run-from : ((v d : ℕ) → distanceOf x v ≡ some d → d < length g) → (fuel d : ℕ) (y : Labels) → d + fuel ≡ length g → Partly x d y
-    → Serial g d y x
+      → Serial g d y x
   unfolding orderOf
   run-from below zero d y e p = go (anyAt d (y .distances)) refl
     where
@@ -354,5 +373,5 @@ module _ {g : Graph} {source : ℕ} {x : Labels} (c : Certified g source x) wher
 module _ {g : Graph} {source : ℕ} (ground : Ground g source) where
   -- a certified result is the end of some link-by-link run
   pub serial-run : {x : Labels} → Certified g source x → ((v d : ℕ) → distanceOf x v ≡ some d → d < length g)
-    → Serial g 0 (openingLabels (length g) source) x
+      → Serial g 0 (openingLabels (length g) source) x
   serial-run {x} c below = run-from c below (length g) 0 (openingLabels (length g) source) (omega arith) (opening-partly c)

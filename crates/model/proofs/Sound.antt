@@ -1,17 +1,16 @@
 -- The invariant of a played state: about the labels, about the workers, and what one event leaves.
 use mathlib.Core.Path.{_≡_}
-use mathlib.Core.Bool.{Bool, true, false}
+use mathlib.Core.Bool.{true, false}
 use mathlib.Core.List.{List}
-use mathlib.Core.Option.{Option, none, some}
+use mathlib.Core.Option.{none, some}
 use mathlib.Core.Logic.{_⊎_}
-use Prim.Native.Nat.{ℕ, suc, _+_, _*_, _≤_, _<_}
-use lib.ListN.{length, getD}
-use Rattle.lists.specs.Lists.{sumOf, reaches}
+use Prim.Native.Nat.{ℕ, suc, _+_, _≤_, _<_}
+use lib.ListN.{length}
+use Rattle.lists.specs.Lists.{reaches}
 use Rattle.graph.specs.Graph.{Graph, edges, targetsOf}
 use Rattle.pennant.specs.Held.{copies, Shaped}
-use Rattle.model.specs.Paths.{target, Joins, Walk, Distance, Labels, distanceOf, parentOf, isSet, Nearer, Certified}
+use Rattle.model.specs.Paths.{target, Walk, Distance, Labels, distanceOf, parentOf, isSet, Nearer}
 use Rattle.model.specs.State.{Phase, free, holding, inHand, marked, named, Worker, State, workerAt}
-use Rattle.model.specs.Demand.{LayerOpen}
 use Rattle.model.proofs.Counts.{setOne, unsets, handOf, namingOf, atOf, inputs, outputs, hands, namings, ats}
 
 -- a graph whose targets are vertices, and a source that is one
@@ -99,11 +98,11 @@ module _ (g : Graph) (source : ℕ) where
     pub inputs-fall : (v : ℕ) → copies v (y .input) ≤ copies v (x .input)
     pub outputs-set : (v : ℕ) → 1 ≤ copies v (y .output) → (1 ≤ copies v (x .output)) ⊎ (distanceOf b v ≡ some (suc d))
     pub edges-kept : (u i : ℕ) → Distance g source u d → i < length (edges g u) → 1 ≤ copies u (x .input) + atOf u i (x .phase)
-      → 1 ≤ copies u (y .input) + atOf u i (y .phase) + setOne (distanceOf b (target g u i))
+        → 1 ≤ copies u (y .input) + atOf u i (y .phase) + setOne (distanceOf b (target g u i))
     pub copies-kept : (v : ℕ) → copies v (x .output) + handOf v (x .phase) ≤ copies v (y .output) + handOf v (y .phase)
     -- a vertex that becomes set is in this worker's hand
     pub newly-set : (v : ℕ) → distanceOf a v ≡ none → isSet (distanceOf b v) ≡ true → (1 ≤ handOf v (y .phase)) × (1 ≤ namingOf v (y .phase))
     -- a copy is added only of a vertex that is unset, to a hand
     pub copies-added : (v : ℕ) → (copies v (y .output) + handOf v (y .phase) ≡ copies v (x .output) + handOf v (x .phase))
-      ⊎ ((distanceOf a v ≡ none) × (copies v (y .output) ≡ copies v (x .output)))
+        ⊎ ((distanceOf a v ≡ none) × (copies v (y .output) ≡ copies v (x .output)))
     pub parents-kept : (v : ℕ) → namingOf v (x .phase) + setOne (parentOf a v) ≤ namingOf v (y .phase) + setOne (parentOf b v) ⊎ (1 ≤ setOne (parentOf b v))

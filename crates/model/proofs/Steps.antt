@@ -1,12 +1,11 @@
 -- One event, and one byte: what they keep. Every event's part (a move, a split, a union, a close) is proved in its own file; here they are joined.
 use mathlib.Core.Path.{_≡_, refl, sym, _∙_, ap}
-use mathlib.Core.Bool.{Bool, true, false, cond, not, _&&_, true≢false}
+use mathlib.Core.Bool.{Bool, true, false, cond, not, _&&_, and-eq-true-iff, true≢false}
 use mathlib.Core.List.{List, map}
 use mathlib.Core.Option.{Option, none, some}
 use Prim.Native.Nat.{ℕ, suc, _+_, _≤_, _<_}
 use native.Mathlib.Omega.{arith}
-use lib.ListN.{length, set}
-use Rattle.lists.specs.Lists.{sumOf}
+use lib.ListN.{set}
 use Rattle.lists.proofs.Sums.{sum-at}
 use Rattle.graph.specs.Graph.{Graph}
 use Rattle.pennant.specs.Bag.{Bag, emptyBag, isEmpty, atLeastTwo}
@@ -19,9 +18,10 @@ use Rattle.schedule.proofs.Bytes.{within-work, within-split, within-unite, spli
 use Rattle.model.specs.Paths.{Distance, Labels, Certified}
 use Rattle.model.specs.State.{free, Worker, worker, idleWorker, State, workerAt}
 use Rattle.model.specs.Table.{move, moved, withWorkers, handedIn, splitInputs, uniteOutputs, allIdle, united, closed, act}
-use Rattle.model.specs.Play.{Run, tally, step, playFrom, eventBound}
+use Rattle.model.specs.Play.{Run, tally, step, eventBound}
 use Rattle.model.specs.Demand.{LayerOpen}
-use Rattle.model.proofs.Sound.{Ground, LabelsSound, WorkerSound, CrewSound, Sound, Moves}
+use Rattle.model.proofs.Sound.{Ground, CrewSound, Sound}
+use Rattle.model.proofs.Workers.{effective}
 use Rattle.model.proofs.Cost.{cost}
 use Rattle.model.proofs.Rounds.{step-over, step-on}
 use Rattle.model.proofs.Moving.{move-sound, move-moves}
@@ -67,16 +67,6 @@ kept-after k live less = record {
   cheaper = less;
 }
 
--- where a condition is met, what then holds of the state after it
-met : (C : State → Type 0) (b : Bool) (t u : State) → cond b (some u) none ≡ some t → (b ≡ true → C u) → C t
-met C true t u e k = let same : u ≡ t = cc in rw (← same) (k refl)
-met C false t u e k = let z : _≡_ {A = ℕ} 0 1 = cc in absurd (omega arith)
-
--- the first of two tests that both hold
-first-of : (a b : Bool) → a && b ≡ true → a ≡ true
-first-of true b e = refl
-first-of false b e = absurd (true≢false (sym e))
-
 module _ {g : Graph} {source : ℕ} (ground : Ground g source) {P : ℕ} where
   -- the vertices of one input bag belong to this layer
   input-within : {d : ℕ} {x : Labels} (workers : List Worker) → CrewSound g source P d x workers → (w v : ℕ) → 1 ≤ copies v (workerAt workers w .input) → Distance g source v d
@@ -84,8 +74,8 @@ module _ {g : Graph} {source : ℕ} (ground : Ground g source) {P : ℕ} where
 
   -- a worker's move
   moved-kept : (s t : State) (w : ℕ) → Sound g source P s → w < P → (m : Option (Worker × Labels))
-    → move g (s .layer) (s .labels) (workerAt (s .workers) w .input) (workerAt (s .workers) w .output) (workerAt (s .workers) w .phase) ≡ m
-    → moved s w m ≡ some t → Kept g source P s t
+      → move g (s .layer) (s .labels) (workerAt (s .workers) w .input) (workerAt (s .workers) w .output) (workerAt (s .workers) w .phase) ≡ m
+      → moved s w m ≡ some t → Kept g source P s t
   unfolding moved
   moved-kept s t w h below none e k = let z : _≡_ {A = ℕ} 0 1 = cc in absurd (omega arith)
   moved-kept s t w h below (some m) e k =
@@ -94,9 +84,9 @@ module _ {g : Graph} {source : ℕ} (ground : Ground g source) {P : ℕ} where
       let near = input-within (s .workers) (h .crew-sound) w in
       let one = h .crew-sound .each w in
       let sound : Sound g source P after = record {
-            labels-sound = move-sound ground (h .labels-sound) one near e;
-            crew-sound = crew-moves ground (s .workers) w (m .0) (h .crew-sound) below (move-moves ground (h .labels-sound) one near e);
-          } in
+        labels-sound = move-sound ground (h .labels-sound) one near e;
+        crew-sound = crew-moves ground (s .workers) w (m .0) (h .crew-sound) below (move-moves ground (h .labels-sound) one near e);
+      } in
       let kept : Kept g source P s after = record { sound = sound; same-layer = refl; same-end = refl } in
       rw (← same) kept
 
@@ -115,8 +105,9 @@ module _ {g : Graph} {source : ℕ} (ground : Ground g source) {P : ℕ} where
   split-kept s t w v h fits k =
       let x = workerAt (s .workers) w .input in
       let y = workerAt (s .workers) v .input in
-      met (Kept g source P s) (isEmpty x && atLeastTwo y) t (withWorkers s (splitInputs (s .workers) w v)) k (λ b.
-        workers-kept s (splitInputs (s .workers) w v) h (crew-split ground (s .workers) w v (h .crew-sound) (fits .0) (fits .1) (fits .2) (first-of (isEmpty x) (atLeastTwo y) b)))
+      let met = effective (isEmpty x && atLeastTwo y) (withWorkers s (splitInputs (s .workers) w v)) t k in
+      let both = and-eq-true-iff (isEmpty x) (atLeastTwo y) .0 (met .0) in
+      rw (← met .1) (workers-kept s (splitInputs (s .workers) w v) h (crew-split ground (s .workers) w v (h .crew-sound) (fits .0) (fits .1) (fits .2) (both .0)))
 
   -- a union
   unite-kept : (s t : State) (w v : ℕ) → Sound g source P s → Fits P (Unite w v) → act g s (Unite w v) ≡ some t → Kept g source P s t
@@ -124,15 +115,15 @@ module _ {g : Graph} {source : ℕ} (ground : Ground g source) {P : ℕ} where
   unite-kept s t w v h fits k =
       let x = workerAt (s .workers) w .output in
       let y = workerAt (s .workers) v .output in
-      met (Kept g source P s) (not (isEmpty x) && not (isEmpty y)) t (withWorkers s (uniteOutputs (s .workers) w v)) k (λ b.
-        workers-kept s (uniteOutputs (s .workers) w v) h (crew-unite ground (s .workers) w v (h .crew-sound) (fits .0) (fits .1) (fits .2)))
+      let met = effective (not (isEmpty x) && not (isEmpty y)) (withWorkers s (uniteOutputs (s .workers) w v)) t k in
+      rw (← met .1) (workers-kept s (uniteOutputs (s .workers) w v) h (crew-unite ground (s .workers) w v (h .crew-sound) (fits .0) (fits .1) (fits .2)))
 
 -- a close of an empty united bag: the search is finished, and all else stays
 closed-empty : (s : State) (bag : Bag) → isEmpty bag ≡ true → closed s bag ≡ record { labels = s .labels; workers = s .workers; layer = s .layer; finished = true }
 unfolding closed
 closed-empty s bag e = ap (λ (b : Bool). cond b
-  (record { labels = s .labels; workers = s .workers; layer = s .layer; finished = true })
-  (record { labels = s .labels; workers = set (map handedIn (s .workers)) 0 (worker bag emptyBag free); layer = suc (s .layer); finished = false })) e
+    (record { labels = s .labels; workers = s .workers; layer = s .layer; finished = true })
+    (record { labels = s .labels; workers = set (map handedIn (s .workers)) 0 (worker bag emptyBag free); layer = suc (s .layer); finished = false })) e
 
 -- a close of any other: the search isn't finished
 closed-filled : (s : State) (bag : Bag) → isEmpty bag ≡ false → closed s bag .finished ≡ false
@@ -142,7 +133,7 @@ closed-filled s bag e = rw e
 module _ {g : Graph} {source : ℕ} (ground : Ground g source) {P : ℕ} (some-worker : 1 ≤ P) where
   -- an effective close
   closed-after : (s : State) → Sound g source P s → allIdle (s .workers) ≡ true → suc (cost P g (closed s (united (s .workers)))) ≤ cost P g s
-    → (b : Bool) → isEmpty (united (s .workers)) ≡ b → After g source P s (closed s (united (s .workers)))
+      → (b : Bool) → isEmpty (united (s .workers)) ≡ b → After g source P s (closed s (united (s .workers)))
   closed-after s h idle less true e =
       let bag = united (s .workers) in
       let over : State = record { labels = s .labels; workers = s .workers; layer = s .layer; finished = true } in
@@ -168,9 +159,8 @@ module _ {g : Graph} {source : ℕ} (ground : Ground g source) {P : ℕ} (some-w
   act-after s t (Split w v) h live fits k = kept-after (split-kept ground s t w v h fits k) live (split-cost ground w v h (fits .0) (fits .1) (fits .2) k)
   act-after s t (Unite w v) h live fits k = kept-after (unite-kept ground s t w v h fits k) live (unite-cost ground w v h (fits .0) (fits .1) (fits .2) k)
   act-after s t Close h live fits k =
-      let after = closed s (united (s .workers)) in
-      met (After g source P s) (allIdle (s .workers)) t after k (λ idle.
-        closed-after s h idle (close-cost ground some-worker h live (ap (λ (b : Bool). cond b (some after) none) idle)) _ refl)
+      let met = effective (allIdle (s .workers)) (closed s (united (s .workers))) t k in
+      rw (← met .1) (closed-after s h (met .0) (rw (met .1) (close-cost ground some-worker h live k)) _ refl)
   act-after s t Malformed h live fits k = let z : _≡_ {A = ℕ} 0 1 = cc in absurd (omega arith)
 
   -- a run so far: a sound state, what was paid and what is still to pay, and a certified result once it is finished
@@ -188,10 +178,10 @@ module _ {g : Graph} {source : ℕ} (ground : Ground g source) {P : ℕ} (some-w
   next-same : (r q : Run) → Good r → q .state ≡ r .state → q .effective ≡ r .effective → Next r q
   next-same r q h same count =
       let good : Good q = record {
-            sound = rw same (h .sound);
-            paid = omega (arith, h .paid, count, ap (cost P g) same);
-            ended = λ f. rw same (h .ended (sym (ap (λ (s : State). s .finished) same) ∙ f));
-          } in
+        sound = rw same (h .sound);
+        paid = omega (arith, h .paid, count, ap (cost P g) same);
+        ended = λ f. rw same (h .ended (sym (ap (λ (s : State). s .finished) same) ∙ f));
+      } in
       record { good = good; opens = λ other. absurd (other (ap (λ (s : State). s .layer) same)) }
 
   -- a byte whose event is met or not

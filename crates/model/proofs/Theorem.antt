@@ -1,26 +1,22 @@
 -- Demand 3: for every graph, source, P and schedule that document 01 accepts, finished or spent, one claim about the whole schedule.
 use mathlib.Core.Path.{_≡_, refl, sym, _∙_, ap, subst}
 use mathlib.Core.Bool.{Bool, true, false, true≢false}
-use mathlib.Core.List.{List, [], _∷_, _++_}
-use mathlib.Core.Option.{Option, some}
-use Prim.Native.Nat.{ℕ, zero, suc, _+_, _≤_, _<_}
+use mathlib.Core.List.{List, [], _∷_}
+use Prim.Native.Nat.{ℕ, zero, suc, _≤_, _<_}
 use native.Mathlib.Omega.{arith}
 use lib.ListN.{length, getD, take}
-use lib.Seq.{take-suc}
 use Rattle.graph.specs.Graph.{Graph}
 use Rattle.schedule.specs.Events.{eventOf, within}
 use Rattle.schedule.specs.Check.{anyStray}
 use Rattle.schedule.proofs.Bytes.{stray-none}
-use Rattle.model.specs.Paths.{Distance, Labels, distanceOf, Right}
-use Rattle.model.specs.State.{State, openingState, openingLabels}
+use Rattle.model.specs.State.{State, openingState}
 use Rattle.model.specs.Play.{Run, step, playFrom, play, stateAt, rounds, eventBound}
-use Rattle.model.specs.Serial.{Serial}
-use Rattle.model.specs.Demand.{Accepted, LayerOpen, Fitting, Demand}
-use Rattle.model.proofs.Sound.{Ground, Sound}
+use Rattle.model.specs.Demand.{Accepted, LayerOpen, Demand}
+use Rattle.model.proofs.Sound.{Ground}
 use Rattle.model.proofs.Cost.{finishCost, cost}
 use Rattle.model.proofs.Rounds.{rounds-count}
 use Rattle.model.proofs.Used.{play-more, told}
-use Rattle.model.proofs.Steps.{Good, Next, step-next}
+use Rattle.model.proofs.Steps.{Good, step-next}
 use Rattle.model.proofs.Certificate.{certified-right}
 use Rattle.model.proofs.Fits.{sound-fits}
 use Rattle.model.proofs.Opening.{opening-sound, opening-opens}
@@ -83,7 +79,7 @@ module _ {g : Graph} {source P : ℕ} {schedule : List ℕ} (a : Accepted g sour
 
   -- a close that raises d opens a layer
   layer-opens : (k : ℕ) → k < length schedule → (stateAt g source P schedule (suc k) .layer ≡ stateAt g source P schedule k .layer → ⊥)
-    → LayerOpen g source P (stateAt g source P schedule (suc k))
+      → LayerOpen g source P (stateAt g source P schedule (suc k))
   unfolding stateAt
   layer-opens k below other =
       let more = play-more g source P schedule k below in

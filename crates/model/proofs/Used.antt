@@ -1,28 +1,21 @@
 -- Which bytes are used, and that the effective count is the number of those whose condition was met at their turn.
 use mathlib.Core.Path.{_≡_, refl, sym, _∙_, ap, subst}
 use mathlib.Core.Bool.{Bool, true, false, true≢false}
-use mathlib.Core.List.{List, [], _∷_, _++_}
+use mathlib.Core.List.{List, [], _∷_}
 use mathlib.Core.Option.{Option, none, some}
 use Prim.Native.Nat.{ℕ, zero, suc, _+_, _≤_, _<_}
-use native.Mathlib.Nat.{zero-add, add-zero, suc-add, add-suc}
+use native.Mathlib.Nat.{zero-add}
 use native.Mathlib.Omega.{arith}
 use lib.ListN.{length, getD, take}
 use lib.Seq.{take-suc, take-length}
 use Rattle.lists.specs.Lists.{numbersFrom, sumOf}
-use Rattle.lists.proofs.Sums.{sum-append}
-use Rattle.lists.proofs.Tests.{range-append}
+use Rattle.lists.proofs.Sums.{sum-last}
 use Rattle.graph.specs.Graph.{Graph}
 use Rattle.schedule.specs.Events.{eventOf}
 use Rattle.model.specs.State.{State, openingState}
 use Rattle.model.specs.Table.{act}
 use Rattle.model.specs.Play.{Run, tally, step, playFrom, play, stateAt, metOne, metAt}
 use Rattle.model.proofs.Rounds.{step-over, step-on, play-append}
-
--- a sum over one number more
-sum-last : (f : ℕ → ℕ) (a k : ℕ) → sumOf f (numbersFrom a (suc k)) ≡ sumOf f (numbersFrom a k) + f (a + k)
-unfolding sumOf numbersFrom
-sum-last f a zero = rw (add-zero a) (omega arith)
-sum-last f a (suc k) = rw (add-suc a k, ← (suc-add a k)) (omega (arith, sum-last f (suc a) k))
 
 module _ (g : Graph) (source P : ℕ) (schedule : List ℕ) where
   -- one more byte is one more step
@@ -56,7 +49,7 @@ module _ (g : Graph) (source P : ℕ) (schedule : List ℕ) where
 
   -- a byte more
   told-more : (k : ℕ) → k < length schedule → (f : Bool) → play g source P (take k schedule) .state .finished ≡ f
-    → Told k (play g source P (take k schedule)) → Told (suc k) (play g source P (take (suc k) schedule))
+      → Told k (play g source P (take k schedule)) → Told (suc k) (play g source P (take (suc k) schedule))
   unfolding stateAt metAt
   told-more k below true e t =
       let same = play-more k below ∙ step-over g (play g source P (take k schedule)) (getD schedule k 0) e in

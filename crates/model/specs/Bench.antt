@@ -1,8 +1,7 @@
 -- Document 01's bench cases A to J, "as a table of inputs and outcomes".
 use mathlib.Core.List.{List, [], _∷_, _++_}
-use Prim.Native.Nat.{ℕ, zero, suc, _+_, _*_}
+use Prim.Native.Nat.{ℕ, zero, suc}
 use lib.ListN.{replicate}
-use Rattle.numbers.specs.Numbers.{unset}
 use Rattle.graph.specs.Encode.{bytesOf}
 use Rattle.pennant.specs.Bag.{Bag, emptyBag, bagInsert, splitFirst, splitSecond}
 use Rattle.pennant.specs.Held.{size}

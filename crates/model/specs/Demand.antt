@@ -1,18 +1,18 @@
 -- Demand 3, as one claim about a whole schedule: what is claimed of a graph, a source, P workers and a schedule.
 use mathlib.Core.Path.{_≡_}
-use mathlib.Core.Bool.{Bool, true, false}
+use mathlib.Core.Bool.{true, false}
 use mathlib.Core.List.{List}
-use mathlib.Core.Option.{Option, none, some}
+use mathlib.Core.Option.{some}
 use Prim.Native.Nat.{ℕ, suc, _+_, _*_, _≤_, _<_}
 use lib.ListN.{length, getD}
 use Rattle.numbers.specs.Numbers.{maxVertices, maxWorkers}
 use Rattle.lists.specs.Lists.{numbersFrom, sumOf, reaches}
 use Rattle.graph.specs.Graph.{Graph, targetsOf}
 use Rattle.pennant.specs.Pennant.{gap}
-use Rattle.pennant.specs.Bag.{Bag, slotCount, isEmpty, isGap}
+use Rattle.pennant.specs.Bag.{slotCount, isEmpty, isGap}
 use Rattle.pennant.specs.Held.{size, copies}
 use Rattle.schedule.specs.Check.{anyStray}
-use Rattle.model.specs.Paths.{Distance, Labels, distanceOf, parentOf, Right}
+use Rattle.model.specs.Paths.{Distance, distanceOf, parentOf, Right}
 use Rattle.model.specs.State.{free, Worker, State, workerAt, openingLabels}
 use Rattle.model.specs.Play.{play, stateAt, metAt, rounds, eventBound}
 use Rattle.model.specs.Serial.{Serial}
@@ -53,7 +53,7 @@ pub record Demand (g : Graph) (source P : ℕ) (schedule : List ℕ) : Type 0 wh
   pub first-layer : LayerOpen g source P (stateAt g source P schedule 0)
   -- .. "and at each close that raises d"
   pub each-layer : (k : ℕ) → k < length schedule → (stateAt g source P schedule (suc k) .layer ≡ stateAt g source P schedule k .layer → ⊥)
-    → LayerOpen g source P (stateAt g source P schedule (suc k))
+      → LayerOpen g source P (stateAt g source P schedule (suc k))
   -- (b) "Written distances are final at any moment of a run."
   pub final : (k v d : ℕ) → distanceOf (stateAt g source P schedule k .labels) v ≡ some d → Distance g source v d
   -- (c) "Their count is at most P × (6 × n + m) + n" ..
@@ -71,6 +71,6 @@ pub record Demand (g : Graph) (source P : ℕ) (schedule : List ℕ) : Type 0 wh
   -- "Events used are the bytes up to and with the finishing one, with 21 all of them."
   pub used-spent : play g source P schedule .state .finished ≡ false → play g source P schedule .used ≡ length schedule
   pub used-finished : play g source P schedule .state .finished ≡ true → (k : ℕ) × (play g source P schedule .used ≡ suc k)
-    × (stateAt g source P schedule k .finished ≡ false) × (stateAt g source P schedule (suc k) .finished ≡ true)
+      × (stateAt g source P schedule k .finished ≡ false) × (stateAt g source P schedule (suc k) .finished ≡ true)
   -- for the engine's lists, at every moment
   pub fitting : (k : ℕ) → Fitting g P (stateAt g source P schedule k)

@@ -45,4 +45,4 @@ anyAt d (x ∷ xs) = isAt d x || anyAt d xs
 pub data Serial (g : Graph) : ℕ → Labels → Labels → Type 0 where
   ended : {d : ℕ} {x : Labels} → anyAt d (x .distances) ≡ false → Serial g d x x
   layer : {d : ℕ} {x y : Labels} → anyAt d (x .distances) ≡ true → (order : List Link) → List·Permᴰ order (layerLinks g d x)
-    → Serial g (suc d) (foldl (follow g d) x order) y → Serial g d x y
+      → Serial g (suc d) (foldl (follow g d) x order) y → Serial g d x y

@@ -1,7 +1,7 @@
 -- The state that a schedule plays on: distances and parents, workers with their two bags and phase, the layer.
-use mathlib.Core.Bool.{Bool, true, false}
-use mathlib.Core.List.{List, []}
-use mathlib.Core.Option.{Option, none, some}
+use mathlib.Core.Bool.{Bool, false}
+use mathlib.Core.List.{List}
+use mathlib.Core.Option.{none, some}
 use Prim.Native.Nat.{ℕ}
 use lib.ListN.{getD, set, replicate}
 use Rattle.pennant.specs.Bag.{Bag, emptyBag, bagInsert}

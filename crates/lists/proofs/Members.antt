@@ -1,15 +1,13 @@
--- Membership in lists: in what passes a test, in rows laid end to end, in a range; and two facts about reading a list by place.
+-- Membership in lists: in what passes a test, in rows laid end to end, in a range.
 use mathlib.Core.Path.{_≡_, refl, sym, ap, _∙_, subst}
 use mathlib.Core.Bool.{Bool, true, false, cond, not, true≢false}
 use mathlib.Core.List.{List, [], _∷_, _++_, map, flatten, List·Permᴰ, List·Permᴰ·nil, List·Permᴰ·cons, List·Permᴰ·trans, Permᴰ·middle}
 use mathlib.Core.List.{List·Memᴰ, List·Memᴰ·head, List·Memᴰ·tail, List·Memᴰ·not-nil, Memᴰ·append-left, Memᴰ·append-right, List·Memᴰ·append-cases}
 use mathlib.Core.Logic.{_⊎_, inl, inr}
-use mathlib.Core.Option.{Option, none, some, Option·none-ne-some}
-use Prim.Native.Nat.{ℕ, zero, suc, _<_}
+use Prim.Native.Nat.{ℕ, _<_}
 use native.Mathlib.Omega.{arith}
-use lib.ListN.{length, getD, replicate}
 use Rattle.lists.specs.Lists.{numbersFrom, elem}
 use Rattle.lists.proofs.Tests.{elem-first, elem-later, elem-cases, elem-range, range-elem}
 
 -- the elements that pass a test, in order
 pub keep : {A : Type 0} → (A → Bool) → List A → List A
@@ -24,8 +22,10 @@ keep-order {A} p (a ∷ l) = go (p a) (keep-order p l)
   where
     passed : List A
     passed = keep p l
+
     failed : List A
     failed = keep (λ (b : A). not (p b)) l
+
     go : (b : Bool) → List·Permᴰ (passed ++ failed) l → List·Permᴰ (cond b (a ∷ passed) passed ++ cond (not b) (a ∷ failed) failed) (a ∷ l)
     go true rest = List·Permᴰ·cons refl rest
     go false rest = List·Permᴰ·trans (Permᴰ·middle a passed failed) (List·Permᴰ·cons refl rest)
@@ -37,7 +37,7 @@ kept p [] m = absurd (List·Memᴰ·not-nil m)
 kept p {e} (a ∷ l) m = go (p a) refl m (kept p l)
   where
     go : (b : Bool) → p a ≡ b → List·Memᴰ e (cond b (a ∷ keep p l) (keep p l)) → (List·Memᴰ e (keep p l) → List·Memᴰ e l × (p e ≡ true))
-      → List·Memᴰ e (a ∷ l) × (p e ≡ true)
+        → List·Memᴰ e (a ∷ l) × (p e ≡ true)
     go true q (List·Memᴰ·head s) rest = (List·Memᴰ·head s, ap p s ∙ q)
     go true q (List·Memᴰ·tail n) rest = let r = rest n in (List·Memᴰ·tail (r .0), r .1)
     go false q n rest = let r = rest n in (List·Memᴰ·tail (r .0), r .1)
@@ -91,15 +91,3 @@ range-in {i} {n} h = elem-in i (numbersFrom 0 n) (range-elem i 0 n (omega arith)
 -- and the other way
 pub in-range : {i : ℕ} (n : ℕ) → List·Memᴰ i (numbersFrom 0 n) → i < n
 in-range {i} n m = omega (arith, elem-range i 0 n (in-elem m))
-
--- a place that is set is one of the list
-pub place-below : {A : Type 0} (l : List (Option A)) (i : ℕ) {a : A} → getD l i none ≡ some a → i < length l
-place-below [] i e = absurd (Option·none-ne-some _ e)
-place-below (x ∷ l) zero e = omega arith
-place-below (x ∷ l) (suc i) e = omega (arith, place-below l i e)
-
--- what is repeated stands everywhere, past the end too where it is the default
-pub getD-repeated : {A : Type 0} (n i : ℕ) (a : A) → getD (replicate n a) i a ≡ a
-getD-repeated zero i a = refl
-getD-repeated (suc n) zero a = refl
-getD-repeated (suc n) (suc i) a = getD-repeated n i a
