@@ -4,8 +4,7 @@ use mathlib.Core.List.{map, flatten}
 use Rattle.numbers.specs.Refusals.{first}
 use Rattle.lists.specs.Lists.{overlay, chainFrom, numbersFrom, sumsFrom, elem, repeats, lacks, reaches, sumOf}
 use Rattle.graph.specs.Graph.{edges, offsetsOf, targetsOf}
-use Rattle.graph.specs.File.{word, wordsAt, vertexCount, edgeCount, headIndex, next, heads, recordTargets, recordNexts, chain, chains, reached, graphOf}
-use Rattle.graph.specs.File.{target as recordTarget}
+use Rattle.graph.specs.File.{word, wordsAt, vertexCount, edgeCount, headIndex, target, next, heads, recordTargets, recordNexts, chain, chains, reached, graphOf}
 use Rattle.graph.specs.Read.{outsideSizes, headerRefusals, scanRefusals, chainRefusals, rowsShort}
 use Rattle.graph.specs.Encode.{bytesOf}
 use Rattle.pennant.specs.Pennant.{pennantUnion, pennantFirst, pennantSecond}
@@ -21,5 +20,5 @@ use Rattle.model.specs.Bench.{Case, Expected, lentFor, answersOf, bagOf,
 
 -- each outcome is the expected one
 pub bench-cases : map (λ (c : Case × Expected). outcomeOfCase (c .0)) benchTable ≡ map (λ (c : Case × Expected). c .1) benchTable
-unfolding first overlay chainFrom numbersFrom sumsFrom elem repeats lacks reaches sumOf flatten edges offsetsOf targetsOf word wordsAt vertexCount edgeCount headIndex next heads recordTargets recordNexts chain chains reached graphOf recordTarget outsideSizes headerRefusals scanRefusals chainRefusals rowsShort bytesOf pennantUnion pennantFirst pennantSecond emptyBag insertPennant bagInsert insertFilled adderSum adderCarry addFrom bagUnion splitFirst splitSecond spread takeFrom takeRest takenNumber isEmpty atLeastTwo weighTree weighSlot weigh formOf eventOf within anyStray scheduleRefusals openingLabels openingState holdAt look mark name move moved splitInputs uniteOutputs isFree allIdle united closed act tally step playFrom play lentShort runOf inputRefusals searchRefusals searchNumber plays answerBy wordOf sweepsMarks lentAfter outcomeOfSearch lentFor answersOf bagOf outcomeOfCase benchTable
+unfolding first overlay chainFrom numbersFrom sumsFrom elem repeats lacks reaches sumOf flatten edges offsetsOf targetsOf word wordsAt vertexCount edgeCount headIndex next heads recordTargets recordNexts chain chains reached graphOf target outsideSizes headerRefusals scanRefusals chainRefusals rowsShort bytesOf pennantUnion pennantFirst pennantSecond emptyBag insertPennant bagInsert insertFilled adderSum adderCarry addFrom bagUnion splitFirst splitSecond spread takeFrom takeRest takenNumber isEmpty atLeastTwo weighTree weighSlot weigh formOf eventOf within anyStray scheduleRefusals openingLabels openingState holdAt look mark name move moved splitInputs uniteOutputs isFree allIdle united closed act tally step playFrom play lentShort runOf inputRefusals searchRefusals searchNumber plays answerBy wordOf sweepsMarks lentAfter outcomeOfSearch lentFor answersOf bagOf outcomeOfCase benchTable
 bench-cases = refl

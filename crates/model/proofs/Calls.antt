@@ -19,7 +19,7 @@ use Rattle.graph.proofs.WellFormed.{scan-bounded, graph-below, positive-header,
 use Rattle.schedule.specs.Check.{anyStray, scheduleRefusals}
 use Rattle.model.specs.Call.{Lent, lentShort, runOf, inputRefusals, searchRefusals, searchNumber, plays}
 use Rattle.model.specs.Demand.{Accepted, Demand}
-use Rattle.model.proofs.Theorem.{demand}
+use Rattle.model.proofs.Theorem.{demand-holds}
 
 -- no refusal of the list has the number or a greater one
 abbrev Below : ℕ → List Refusal → Type 0
@@ -78,7 +78,7 @@ call-accepted file source P schedule lent e =
 -- demand 3 of a call whose input passes
 pub call-demand : (file : List ℕ) (source P : ℕ) (schedule : List ℕ) (lent : Lent) → first (inputRefusals file source P schedule lent) ≡ 0
     → Demand (graphOf file) source P schedule
-call-demand file source P schedule lent e = demand (call-accepted file source P schedule lent e)
+call-demand file source P schedule lent e = demand-holds (call-accepted file source P schedule lent e)
 
 -- such a call answers 0 if its search is finished, else 21
 pub call-number : (file : List ℕ) (source P : ℕ) (schedule : List ℕ) (lent : Lent) → first (inputRefusals file source P schedule lent) ≡ 0

@@ -13,8 +13,8 @@ use Rattle.graph.specs.Graph.{Graph, edges}
 use Rattle.pennant.specs.Bag.{emptyBag, takenNumber, isEmpty}
 use Rattle.pennant.specs.Held.{only, copies}
 use Rattle.pennant.proofs.Laws.{empty-weighs, taken-held, shaped-empty}
-use Rattle.model.specs.Paths.{target, Walk, stay, onward, Distance, Labels, distanceOf, parentOf, isSet, Certified}
-use Rattle.model.specs.State.{free, Worker, worker, idleWorker, State, workerAt}
+use Rattle.model.specs.Paths.{edgeTarget, Walk, stay, onward, Distance, Labels, distanceOf, parentOf, isSet, Certified}
+use Rattle.model.specs.State.{free, Worker, workerWith, idleWorker, State, workerAt}
 use Rattle.model.specs.Table.{allIdle, united, handedIn, closed}
 use Rattle.model.specs.Demand.{LayerOpen}
 use Rattle.model.proofs.Counts.{setOne, outputs}
@@ -33,20 +33,20 @@ module _ {g : Graph} {source P d : ℕ} {x : Labels} {workers : List Worker}
   all-free w = idle w .phase-free
 
   -- a path through a vertex that is set
-  through : (u k i : ℕ) → distanceOf x u ≡ some k → i < length (edges g u) → Walk g source (target g u i) (suc k)
+  through : (u k i : ℕ) → distanceOf x u ≡ some k → i < length (edges g u) → Walk g source (edgeTarget g u i) (suc k)
   through u k i e there = onward (l .written u k e .walk) (record { place = i; there = there; leads = refl })
 
   -- every edge of a vertex up to this layer leads to a vertex that is set
-  target-set : (u k i : ℕ) → distanceOf x u ≡ some k → k ≤ d → i < length (edges g u) → isSet (distanceOf x (target g u i)) ≡ true
+  target-set : (u k i : ℕ) → distanceOf x u ≡ some k → k ≤ d → i < length (edges g u) → isSet (distanceOf x (edgeTarget g u i)) ≡ true
   target-set u k i e h there = go (ltb k d) refl
     where
-      go : (b : Bool) → ltb k d ≡ b → isSet (distanceOf x (target g u i)) ≡ true
-      go true q = l .near (target g u i) (suc k) (through u k i e there) (ltb-true k d q)
+      go : (b : Bool) → ltb k d ≡ b → isSet (distanceOf x (edgeTarget g u i)) ≡ true
+      go true q = l .near (edgeTarget g u i) (suc k) (through u k i e there) (ltb-true k d q)
       go false q =
           let same : k ≡ d = omega (arith, ltb-false k d q) in
           let looked = c .covered u i (rw same at (l .written u k e)) there in
           let taken = no-copies (λ w. w .input) workers (λ w. idle w .input-empty) u in
-          one-set (distanceOf x (target g u i)) (omega (arith, no-ats workers all-free u i))
+          one-set (distanceOf x (edgeTarget g u i)) (omega (arith, no-ats workers all-free u i))
 
   -- what d + 1 links reach is set
   next-set : (v k : ℕ) → Walk g source v k → k ≤ suc d → isSet (distanceOf x v) ≡ true
@@ -123,7 +123,7 @@ module _ {g : Graph} {source P d : ℕ} {x : Labels} {workers : List Worker}
 
   -- the state that a close leaves, if it raises the layer
   abbrev next : State
-  next = record { labels = x; workers = set (map handedIn workers) 0 (worker (united workers) emptyBag free); layer = suc d; finished = false }
+  next = record { labels = x; workers = set (map handedIn workers) 0 (workerWith (united workers) emptyBag free); layer = suc d; finished = false }
 
   -- is sound, if an output bag holds a vertex
   next-sound : 1 ≤ P → isEmpty (united workers) ≡ false → Sound g source P next
@@ -162,8 +162,8 @@ module _ {g : Graph} {source P d : ℕ} {x : Labels} {workers : List Worker}
     source = label-is l source 0 (l .near source 0 stay (omega arith)) distance-source;
     own-parent = l .own-parent;
     onward = λ u k i below e there.
-        let label = set-value (distanceOf x (target g u i)) (target-set u k i e (last-layer empty u k e) there) in
-        (label .value, label .is, l .written (target g u i) (label .value) (label .is) .least (suc k) (through u k i e there));
+        let label = set-value (distanceOf x (edgeTarget g u i)) (target-set u k i e (last-layer empty u k e) there) in
+        (label .value, label .is, l .written (edgeTarget g u i) (label .value) (label .is) .least (suc k) (through u k i e there));
     no-parent = λ v below e. unnamed v e (parentOf x v) refl;
     parent = λ v below apart e.
         let name = set-value (parentOf x v) (one-set (parentOf x v) (parent-set v e)) in

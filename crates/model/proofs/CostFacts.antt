@@ -15,7 +15,7 @@ use Rattle.graph.specs.Graph.{Graph, edges}
 use Rattle.pennant.specs.Bag.{Bag, emptyBag, isEmpty}
 use Rattle.pennant.specs.Held.{items, weigh, one, size}
 use Rattle.pennant.proofs.Laws.{weigh-empty, weigh-items, filled-size}
-use Rattle.model.specs.Paths.{target, Labels, distanceOf, isSet}
+use Rattle.model.specs.Paths.{edgeTarget, Labels, distanceOf, isSet}
 use Rattle.model.specs.State.{Phase, free, holding, inHand, marked, named}
 use Rattle.model.specs.Table.{holdAt, look, mark}
 use Rattle.model.proofs.Workers.{hold-cases, empty-bag}
@@ -85,10 +85,10 @@ module _ (g : Graph) where
   -- after a look one edge fewer is left, and an unset vertex that is in hand then costs the worker nothing
   pub look-cost : (x : Labels) (u i : ℕ) → i < degree g u → suc (phaseCost g x (look g x u i)) ≤ degree g u - i
   unfolding look
-  look-cost x u i there = go (isSet (distanceOf x (target g u i))) refl
+  look-cost x u i there = go (isSet (distanceOf x (edgeTarget g u i))) refl
     where
-      go : (b : Bool) → isSet (distanceOf x (target g u i)) ≡ b
-          → suc (phaseCost g x (cond b (holdAt g u (suc i)) (inHand u i (target g u i)))) ≤ degree g u - i
+      go : (b : Bool) → isSet (distanceOf x (edgeTarget g u i)) ≡ b
+          → suc (phaseCost g x (cond b (holdAt g u (suc i)) (inHand u i (edgeTarget g u i)))) ≤ degree g u - i
       go true e = omega (arith, hold-cost x u (suc i))
       go false e = rw e (omega arith)
 

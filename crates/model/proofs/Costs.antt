@@ -17,7 +17,7 @@ use Rattle.pennant.specs.Held.{weigh, Shaped}
 use Rattle.pennant.proofs.Laws.{weigh-empty, weigh-insert, weigh-union, weigh-split, weigh-rest, empty-weighs, split-filled}
 use Rattle.schedule.specs.declared.Event.the-variants.{Work, Split, Unite, Close}
 use Rattle.model.specs.Paths.{Labels, distanceOf}
-use Rattle.model.specs.State.{Phase, free, holding, inHand, marked, named, Worker, worker, idleWorker}
+use Rattle.model.specs.State.{Phase, free, holding, inHand, marked, named, Worker, workerWith, idleWorker}
 use Rattle.model.specs.State.{State, workerAt, openingLabels, openingState}
 use Rattle.model.specs.Table.{holdAt, mark, name, move, moved, withWorkers, splitInputs, uniteOutputs, allIdle, united, handedIn, closed, act}
 use Rattle.model.specs.Play.{eventBound}
@@ -62,20 +62,20 @@ module _ (g : Graph) where
       rw (← gain) (omega (arith, sums))
 
   -- take: the number taken pays for its edges and for the move
-  take-lowers : (d : ℕ) (a : Labels) (input output : Bag) → Shaped input → MoveLowers a (worker input output free) (move g d a input output free)
+  take-lowers : (d : ℕ) (a : Labels) (input output : Bag) → Shaped input → MoveLowers a (workerWith input output free) (move g d a input output free)
   unfolding move
   take-lowers d a input output shaped = go (isEmpty input) refl
     where
       taken : Worker
-      taken = worker (takeRest input) output (holdAt g (takenNumber input) 0)
+      taken = workerWith (takeRest input) output (holdAt g (takenNumber input) 0)
 
-      go : (b : Bool) → isEmpty input ≡ b → MoveLowers a (worker input output free) (cond b none (some (taken, a)))
+      go : (b : Bool) → isEmpty input ≡ b → MoveLowers a (workerWith input output free) (cond b none (some (taken, a)))
       go true e = tt
       go false e = same-labels a _ _ (omega (arith, weigh-rest (itemCost g) input shaped e, filled-one input e, hold-cost g a (takenNumber input) 0))
 
   -- mark: the vertex is set then, so the worker pays for it, but no more for the mark
   mark-lowers : (d u i t : ℕ) (a : Labels) (input output : Bag) → length (a .distances) ≡ length g → t < length g
-      → Lowers a (mark d t a) (worker input output (inHand u i t)) (worker input output (marked u i t))
+      → Lowers a (mark d t a) (workerWith input output (inHand u i t)) (workerWith input output (marked u i t))
   unfolding mark
   mark-lowers d u i t a input output same below = record {
     worker-falls = rw (getD-set-same (a .distances) t (some (suc d)) none (omega arith)) (omega arith);
@@ -85,13 +85,13 @@ module _ (g : Graph) where
 
   -- name: no distance changes
   name-lowers : (u i t : ℕ) (a : Labels) (input output : Bag)
-      → Lowers a (name u t a) (worker input output (marked u i t)) (worker input output (named u i t))
+      → Lowers a (name u t a) (workerWith input output (marked u i t)) (workerWith input output (named u i t))
   unfolding name
   name-lowers u i t a input output = record { worker-falls = omega arith; labels-fall = relabel a (name u t a) 0 (omega arith) (λ v. omega arith) }
 
   -- stow: the vertex costs less in the output bag, even if that was empty
   stow-falls : (u i t : ℕ) (a : Labels) (input output : Bag)
-      → suc (workerCost g a (worker input (bagInsert t output) (holdAt g u (suc i)))) ≤ workerCost g a (worker input output (named u i t))
+      → suc (workerCost g a (workerWith input (bagInsert t output) (holdAt g u (suc i)))) ≤ workerCost g a (workerWith input output (named u i t))
   stow-falls u i t a input output = omega (arith, weigh-insert (itemCost g) t output, filled-most (bagInsert t output), hold-cost g a u (suc i))
 
   -- Closing.
@@ -106,7 +106,7 @@ module _ (g : Graph) where
 
   -- what is united costs less in one input bag than in the output bags
   united-cost : (x : Labels) (workers : List Worker) → 1 ≤ length workers → allIdle workers ≡ true → isEmpty (united workers) ≡ false
-      → suc (sumOf (workerCost g x) (set (map handedIn workers) 0 (worker (united workers) emptyBag free))) ≤ sumOf (workerCost g x) workers
+      → suc (sumOf (workerCost g x) (set (map handedIn workers) 0 (workerWith (united workers) emptyBag free))) ≤ sumOf (workerCost g x) workers
   unfolding united sumOf
   united-cost x [] staffed e filled = absurd (omega arith)
   united-cost x (w ∷ workers) staffed e filled =
@@ -127,7 +127,7 @@ module _ (g : Graph) where
 
   -- idle workers, and the source in the input bag of the first one
   opening-workers : (x : Labels) (source P : ℕ)
-      → sumOf (workerCost g x) (set (replicate (suc P) idleWorker) 0 (worker (bagInsert source emptyBag) emptyBag free)) ≤ 2 + degree g source
+      → sumOf (workerCost g x) (set (replicate (suc P) idleWorker) 0 (workerWith (bagInsert source emptyBag) emptyBag free)) ≤ 2 + degree g source
   unfolding sumOf
   opening-workers x source P =
       let idle : workerCost g x idleWorker ≡ 0 = omega (arith, weigh-empty (itemCost g), empty-output g) in
@@ -137,7 +137,7 @@ module _ (g : Graph) where
 module _ {g : Graph} {source : ℕ} (ground : Ground g source) where
   -- every move of a worker lowers the cost
   move-lowers : (d : ℕ) (a : Labels) (input output : Bag) (p : Phase) → length (a .distances) ≡ length g → Shaped input → PhaseSound g source d a p
-      → MoveLowers g a (worker input output p) (move g d a input output p)
+      → MoveLowers g a (workerWith input output p) (move g d a input output p)
   unfolding move
   move-lowers d a input output free same shaped h = take-lowers g d a input output shaped
   move-lowers d a input output (holding u i) same shaped h = same-labels g a _ _ (omega (arith, look-cost g a u i (h .there)))

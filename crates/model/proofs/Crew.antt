@@ -17,8 +17,8 @@ use Rattle.graph.specs.Graph.{Graph, edges}
 use Rattle.pennant.specs.Bag.{Bag, emptyBag, bagUnion, splitFirst, splitSecond, isEmpty}
 use Rattle.pennant.specs.Held.{only, copies, Shaped}
 use Rattle.pennant.proofs.Laws.{weigh-empty, weigh-union, weigh-split, empty-weighs, shaped-empty, shaped-union, shaped-first, shaped-second}
-use Rattle.model.specs.Paths.{target, Distance, Labels, distanceOf, parentOf, isSet}
-use Rattle.model.specs.State.{Phase, free, holding, inHand, marked, named, Worker, worker, idleWorker, workerAt}
+use Rattle.model.specs.Paths.{edgeTarget, Distance, Labels, distanceOf, parentOf, isSet}
+use Rattle.model.specs.State.{Phase, free, holding, inHand, marked, named, Worker, workerWith, idleWorker, workerAt}
 use Rattle.model.specs.Table.{splitInputs, uniteOutputs}
 use Rattle.model.proofs.Counts.{setOne, handOf, namingOf, atOf, inputs, outputs, hands, namings, ats}
 use Rattle.model.proofs.LabelFacts.{set-kept}
@@ -86,9 +86,9 @@ module _ {g : Graph} {source : ℕ} (ground : Ground g source) where
 
     -- every edge of this layer is still to be looked at, or its target is set
     covered-kept : (u i : ℕ) → Distance g source u d → i < length (edges g u)
-        → 1 ≤ inputs u (set workers w y) + ats u i (set workers w y) + setOne (distanceOf b (target g u i))
+        → 1 ≤ inputs u (set workers w y) + ats u i (set workers w y) + setOne (distanceOf b (edgeTarget g u i))
     covered-kept u i far there =
-        let target-set = set-kept (distanceOf a (target g u i)) (distanceOf b (target g u i)) (m .keeps (target g u i)) in
+        let target-set = set-kept (distanceOf a (edgeTarget g u i)) (distanceOf b (edgeTarget g u i)) (m .keeps (edgeTarget g u i)) in
         elim (decLe 1 (copies u (workerAt workers w .input) + atOf u i (workerAt workers w .phase))) [
           | yes here ↦ omega (arith, inputs-change u, ats-change u i, m .edges-kept u i far there here)
           | no away ↦ omega (arith, inputs-change u, ats-change u i, c .covered u i far there)
@@ -162,17 +162,17 @@ module _ {g : Graph} {source : ℕ} (ground : Ground g source) where
   module _ {P d : ℕ} {x : Labels} (workers : List Worker) (w v : ℕ)
       (c : CrewSound g source P d x workers) (h : w < P) (k : v < P) (apart : w ≡ v → ⊥) where
     -- worker j with other bags in shape
-    refilled : (j : ℕ) (s t : Bag) → Shaped s → Shaped t → WorkerSound g source d x (worker s t (workerAt workers j .phase))
+    refilled : (j : ℕ) (s t : Bag) → Shaped s → Shaped t → WorkerSound g source d x (workerWith s t (workerAt workers j .phase))
     refilled j s t input output = record { input-shaped = input; output-shaped = output; phase-sound = c .each j .phase-sound }
 
     -- what split and unite share: w gets the bags p and q, v gets s and t, both keep their phases, and together they hold what they held before
     crew-shared : (p q s t : Bag) → Shaped p → Shaped q → Shaped s → Shaped t
         → ((u : ℕ) → copies u p + copies u s ≡ copies u (workerAt workers w .input) + copies u (workerAt workers v .input))
         → ((u : ℕ) → copies u q + copies u t ≡ copies u (workerAt workers w .output) + copies u (workerAt workers v .output))
-        → CrewSound g source P d x (set (set workers v (worker s t (workerAt workers v .phase))) w (worker p q (workerAt workers w .phase)))
+        → CrewSound g source P d x (set (set workers v (workerWith s t (workerAt workers v .phase))) w (workerWith p q (workerAt workers w .phase)))
     crew-shared p q s t p-shaped q-shaped s-shaped t-shaped same-input same-output =
-        let y = worker p q (workerAt workers w .phase) in
-        let z = worker s t (workerAt workers v .phase) in
+        let y = workerWith p q (workerAt workers w .phase) in
+        let z = workerWith s t (workerAt workers v .phase) in
         let same : (f : Worker → ℕ) → f y + f z ≡ f (workerAt workers w) + f (workerAt workers v)
         → sumOf f (set (set workers v z) w y) ≡ sumOf f workers
         = λ f e. omega (arith, sum-two f workers w v y z idleWorker (rw (c .crew) h) (rw (c .crew) k) apart) in

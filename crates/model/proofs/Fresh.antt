@@ -15,7 +15,7 @@ use Rattle.pennant.specs.Bag.{Bag, emptyBag, isEmpty}
 use Rattle.pennant.specs.Held.{only, copies, Shaped}
 use Rattle.pennant.proofs.Laws.{empty-weighs, shaped-empty}
 use Rattle.model.specs.Paths.{Distance, Labels, distanceOf, parentOf, isSet}
-use Rattle.model.specs.State.{free, Worker, worker, idleWorker, workerAt}
+use Rattle.model.specs.State.{free, Worker, workerWith, idleWorker, workerAt}
 use Rattle.model.specs.Demand.{LayerOpen}
 use Rattle.model.proofs.Counts.{setOne, handOf, namingOf, atOf, inputs, hands, namings, ats}
 use Rattle.model.proofs.Workers.{empty-bag, Idle, idle-worker}
@@ -78,7 +78,7 @@ pub record SpareCrew (P : ℕ) (workers : List Worker) : Type 0 where
 module _ {g : Graph} {source P d : ℕ} {spares : List Worker} {bag : Bag} (spare : SpareCrew P spares) (holds : LayerBag g source P d bag) where
   -- the worker that gets it
   abbrev filled : Worker
-  filled = worker bag emptyBag free
+  filled = workerWith bag emptyBag free
 
   -- the crew then
   abbrev fresh : List Worker

@@ -17,6 +17,7 @@ pub mod CostFacts
 pub mod Costs
 pub mod Fits
 pub mod SerialRun
+pub mod Plays
 pub mod Rounds
 pub mod Steps
 pub mod Used

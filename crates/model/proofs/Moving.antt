@@ -13,8 +13,8 @@ use Rattle.graph.specs.Graph.{Graph, edges}
 use Rattle.pennant.specs.Bag.{Bag, bagInsert, takeRest, takenNumber, isEmpty}
 use Rattle.pennant.specs.Held.{only, copies, Shaped}
 use Rattle.pennant.proofs.Laws.{weigh-insert, weigh-rest, only-self, taken-held, shaped-insert, shaped-rest}
-use Rattle.model.specs.Paths.{target, Distance, Labels, distanceOf, parentOf, isSet}
-use Rattle.model.specs.State.{Phase, free, holding, inHand, marked, named, Worker, worker}
+use Rattle.model.specs.Paths.{edgeTarget, Distance, Labels, distanceOf, parentOf, isSet}
+use Rattle.model.specs.State.{Phase, free, holding, inHand, marked, named, Worker, workerWith}
 use Rattle.model.specs.Table.{holdAt, look, mark, name, move}
 use Rattle.model.proofs.Counts.{setOne, handOf, namingOf, atOf}
 use Rattle.model.proofs.Sound.{Ground, LabelsSound, PhaseSound, WorkerSound, Moves}
@@ -36,22 +36,22 @@ module _ (g : Graph) where
       (λ h. rw (eq-eqb u v same, le-leb i j before) (omega arith))
 
   -- a worker that passes on from edge i, whose target is set, leaves no edge whose target isn't
-  passes : (a : Labels) (u i v j : ℕ) → isSet (distanceOf a (target g u i)) ≡ true → j < length (edges g v)
-      → atOf v j (holding u i) ≤ atOf v j (holdAt g u (suc i)) + setOne (distanceOf a (target g v j))
+  passes : (a : Labels) (u i v j : ℕ) → isSet (distanceOf a (edgeTarget g u i)) ≡ true → j < length (edges g v)
+      → atOf v j (holding u i) ≤ atOf v j (holdAt g u (suc i)) + setOne (distanceOf a (edgeTarget g v j))
   passes a u i v j set there = test-within (eqb u v && leb i j) _ (λ q.
       let both = and-eq-true-iff (eqb u v) (leb i j) .0 q in
       go (leb (suc i) j) refl (eqb-true u v (both .0)) (leb-true i j (both .1)))
     where
-      go : (b : Bool) → leb (suc i) j ≡ b → u ≡ v → i ≤ j → 1 ≤ atOf v j (holdAt g u (suc i)) + setOne (distanceOf a (target g v j))
+      go : (b : Bool) → leb (suc i) j ≡ b → u ≡ v → i ≤ j → 1 ≤ atOf v j (holdAt g u (suc i)) + setOne (distanceOf a (edgeTarget g v j))
       go true q same before = omega (arith, hold-at u (suc i) v j same (leb-true (suc i) j q) there)
       go false q same before =
           let here : i ≡ j = omega (arith, leb-false (suc i) j q) in
-          omega (arith, set-one (distanceOf a (target g v j)) (rw (same, here) at set))
+          omega (arith, set-one (distanceOf a (edgeTarget g v j)) (rw (same, here) at set))
 
 module _ {g : Graph} {source d : ℕ} {a : Labels} where
   -- a worker that keeps its bags and changes its phase
-  in-phase : {b : Labels} {input output : Bag} {p q : Phase} → WorkerSound g source d a (worker input output p) → PhaseSound g source d b q
-      → WorkerSound g source d b (worker input output q)
+  in-phase : {b : Labels} {input output : Bag} {p q : Phase} → WorkerSound g source d a (workerWith input output p) → PhaseSound g source d b q
+      → WorkerSound g source d b (workerWith input output q)
   in-phase w h = record { input-shaped = w .input-shaped; output-shaped = w .output-shaped; phase-sound = h }
 
   -- a move after which the worker goes to an edge, and the labels are as they were
@@ -59,10 +59,10 @@ module _ {g : Graph} {source d : ℕ} {a : Labels} where
       → ((v : ℕ) → copies v input ≤ copies v (x .input))
       → ((v : ℕ) → 1 ≤ copies v output → (1 ≤ copies v (x .output)) ⊎ (distanceOf a v ≡ some (suc d)))
       → ((v j : ℕ) → j < length (edges g v)
-      → copies v (x .input) + atOf v j (x .phase) ≤ copies v input + atOf v j (holdAt g u i) + setOne (distanceOf a (target g v j)))
+      → copies v (x .input) + atOf v j (x .phase) ≤ copies v input + atOf v j (holdAt g u i) + setOne (distanceOf a (edgeTarget g v j)))
       → ((v : ℕ) → copies v output ≡ copies v (x .output) + handOf v (x .phase))
       → ((v : ℕ) → namingOf v (x .phase) ≡ 0)
-      → Moves g source d a a x (worker input output (holdAt g u i))
+      → Moves g source d a a x (workerWith input output (holdAt g u i))
   to-hold u i input-shaped output-shaped far inputs-fall outputs-set edges-kept copies-same no-naming = record {
     sound = record {
       input-shaped = input-shaped;
@@ -81,7 +81,7 @@ module _ {g : Graph} {source d : ℕ} {a : Labels} where
 
   -- take: a vertex of the input bag is held instead
   take-moves : {input output : Bag} → Shaped input → Shaped output → isEmpty input ≡ false → Distance g source (takenNumber input) d
-      → Moves g source d a a (worker input output free) (worker (takeRest input) output (holdAt g (takenNumber input) 0))
+      → Moves g source d a a (workerWith input output free) (workerWith (takeRest input) output (holdAt g (takenNumber input) 0))
   take-moves {input = input} p q filled far =
       let t = takenNumber input in
       to-hold t 0 (shaped-rest input p) q far
@@ -94,9 +94,9 @@ module _ {g : Graph} {source d : ℕ} {a : Labels} where
       (λ v. refl)
 
   -- pass on from an edge whose target is set
-  pass-moves : {input output : Bag} {u i : ℕ} → WorkerSound g source d a (worker input output (holding u i))
-      → isSet (distanceOf a (target g u i)) ≡ true
-      → Moves g source d a a (worker input output (holding u i)) (worker input output (holdAt g u (suc i)))
+  pass-moves : {input output : Bag} {u i : ℕ} → WorkerSound g source d a (workerWith input output (holding u i))
+      → isSet (distanceOf a (edgeTarget g u i)) ≡ true
+      → Moves g source d a a (workerWith input output (holding u i)) (workerWith input output (holdAt g u (suc i)))
   pass-moves {u = u} {i = i} w set = to-hold u (suc i) (w .input-shaped) (w .output-shaped) (w .phase-sound .far)
       (λ v. omega arith)
       (λ v h. inl h)
@@ -105,8 +105,8 @@ module _ {g : Graph} {source d : ℕ} {a : Labels} where
       (λ v. refl)
 
   -- stow: the vertex in hand goes into the output bag
-  stow-moves : {input output : Bag} {u i t : ℕ} → WorkerSound g source d a (worker input output (named u i t))
-      → Moves g source d a a (worker input output (named u i t)) (worker input (bagInsert t output) (holdAt g u (suc i)))
+  stow-moves : {input output : Bag} {u i t : ℕ} → WorkerSound g source d a (workerWith input output (named u i t))
+      → Moves g source d a a (workerWith input output (named u i t)) (workerWith input (bagInsert t output) (holdAt g u (suc i)))
   stow-moves {output = output} {u = u} {i = i} {t = t} w =
       let h = w .phase-sound in
       to-hold u (suc i) (w .input-shaped) (shaped-insert t output (w .output-shaped)) (h .found .at .far)
@@ -123,9 +123,9 @@ module _ {g : Graph} {source d : ℕ} {a : Labels} where
 module _ {g : Graph} {source : ℕ} (ground : Ground g source) where
   module _ {d : ℕ} {a : Labels} (l : LabelsSound g source d a) where
     -- an unset target comes into hand
-    hand-moves : {input output : Bag} {u i : ℕ} → WorkerSound g source d a (worker input output (holding u i))
-        → isSet (distanceOf a (target g u i)) ≡ false
-        → Moves g source d a a (worker input output (holding u i)) (worker input output (inHand u i (target g u i)))
+    hand-moves : {input output : Bag} {u i : ℕ} → WorkerSound g source d a (workerWith input output (holding u i))
+        → isSet (distanceOf a (edgeTarget g u i)) ≡ false
+        → Moves g source d a a (workerWith input output (holding u i)) (workerWith input output (inHand u i (edgeTarget g u i)))
     hand-moves {output = output} {u = u} {i = i} w unset = record {
       sound = in-phase w (record { at = w .phase-sound; leads = refl; next = unset-next ground l (w .phase-sound) unset });
       keeps = λ v k e. e;
@@ -134,18 +134,18 @@ module _ {g : Graph} {source : ℕ} (ground : Ground g source) where
       edges-kept = λ v j near there h. omega arith;
       copies-kept = λ v. omega arith;
       newly-set = λ v e s. not-both e s;
-      copies-added = λ v. added v (eqb (target g u i) v) refl;
+      copies-added = λ v. added v (eqb (edgeTarget g u i) v) refl;
       parents-kept = λ v. inl (omega arith);
     }
       where
-        added : (v : ℕ) (b : Bool) → eqb (target g u i) v ≡ b
+        added : (v : ℕ) (b : Bool) → eqb (edgeTarget g u i) v ≡ b
             → (copies v output + cond b 1 0 ≡ copies v output + 0) ⊎ ((distanceOf a v ≡ none) × (copies v output ≡ copies v output))
-        added v true q = inr (unset-none (distanceOf a v) (rw (eqb-true (target g u i) v q) at unset), refl)
+        added v true q = inr (unset-none (distanceOf a v) (rw (eqb-true (edgeTarget g u i) v q) at unset), refl)
         added v false q = inl refl
 
     -- mark: the vertex in hand gets its distance
-    mark-moves : {input output : Bag} {u i t : ℕ} → WorkerSound g source d a (worker input output (inHand u i t))
-        → Moves g source d a (mark d t a) (worker input output (inHand u i t)) (worker input output (marked u i t))
+    mark-moves : {input output : Bag} {u i t : ℕ} → WorkerSound g source d a (workerWith input output (inHand u i t))
+        → Moves g source d a (mark d t a) (workerWith input output (inHand u i t)) (workerWith input output (marked u i t))
     unfolding mark
     mark-moves {t = t} w =
         let next = w .phase-sound .next in
@@ -164,8 +164,8 @@ module _ {g : Graph} {source : ℕ} (ground : Ground g source) where
         }
 
     -- name: the vertex in hand gets its parent
-    name-moves : {input output : Bag} {u i t : ℕ} → WorkerSound g source d a (worker input output (marked u i t))
-        → Moves g source d a (name u t a) (worker input output (marked u i t)) (worker input output (named u i t))
+    name-moves : {input output : Bag} {u i t : ℕ} → WorkerSound g source d a (workerWith input output (marked u i t))
+        → Moves g source d a (name u t a) (workerWith input output (marked u i t)) (workerWith input output (named u i t))
     unfolding name
     name-moves {u = u} {t = t} w = record {
       sound = in-phase w (record { found = w .phase-sound .found; marked = w .phase-sound .marked });
@@ -187,23 +187,23 @@ module _ {g : Graph} {source : ℕ} (ground : Ground g source) where
     AfterMove x (some m) = LabelsSound g source d (m .1) × Moves g source d a (m .1) x (m .0)
 
     -- the move of each phase leaves that
-    move-each : (input output : Bag) (phase : Phase) → WorkerSound g source d a (worker input output phase)
-        → ((v : ℕ) → 1 ≤ copies v input → Distance g source v d) → AfterMove (worker input output phase) (move g d a input output phase)
+    move-each : (input output : Bag) (phase : Phase) → WorkerSound g source d a (workerWith input output phase)
+        → ((v : ℕ) → 1 ≤ copies v input → Distance g source v d) → AfterMove (workerWith input output phase) (move g d a input output phase)
     unfolding move look
     move-each input output free w near = go (isEmpty input) refl
       where
         after : Worker × Labels
-        after = (worker (takeRest input) output (holdAt g (takenNumber input) 0), a)
+        after = (workerWith (takeRest input) output (holdAt g (takenNumber input) 0), a)
 
-        go : (b : Bool) → isEmpty input ≡ b → AfterMove (worker input output free) (cond b none (some after))
+        go : (b : Bool) → isEmpty input ≡ b → AfterMove (workerWith input output free) (cond b none (some after))
         go true q = tt
         go false q = (l, take-moves (w .input-shaped) (w .output-shaped) q (near (takenNumber input) (taken-held input q)))
-    move-each input output (holding u i) w near = go (isSet (distanceOf a (target g u i))) refl
+    move-each input output (holding u i) w near = go (isSet (distanceOf a (edgeTarget g u i))) refl
       where
         after : Bool → Worker × Labels
-        after b = (worker input output (cond b (holdAt g u (suc i)) (inHand u i (target g u i))), a)
+        after b = (workerWith input output (cond b (holdAt g u (suc i)) (inHand u i (edgeTarget g u i))), a)
 
-        go : (b : Bool) → isSet (distanceOf a (target g u i)) ≡ b → AfterMove (worker input output (holding u i)) (some (after b))
+        go : (b : Bool) → isSet (distanceOf a (edgeTarget g u i)) ≡ b → AfterMove (workerWith input output (holding u i)) (some (after b))
         go true q = (l, pass-moves w q)
         go false q = (l, hand-moves w q)
     move-each input output (inHand u i t) w near = (mark-sound ground l (w .phase-sound .next), mark-moves w)

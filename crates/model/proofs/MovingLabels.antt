@@ -11,7 +11,7 @@ use borrow.Author.Tests.{leb-true, leb-false}
 use Rattle.lists.proofs.Sums.{sum-set}
 use Rattle.lists.proofs.Replaced.{set-cases}
 use Rattle.graph.specs.Graph.{Graph}
-use Rattle.model.specs.Paths.{target, Walk, onward, Distance, Labels, distanceOf, parentOf, isSet, Nearer}
+use Rattle.model.specs.Paths.{edgeTarget, Walk, onward, Distance, Labels, distanceOf, parentOf, isSet, Nearer}
 use Rattle.model.specs.Table.{mark, name}
 use Rattle.model.proofs.Counts.{unsetOne, unsets}
 use Rattle.model.proofs.Sound.{Ground, LabelsSound, AtEdge, WithMark}
@@ -29,14 +29,14 @@ module _ {g : Graph} {source : ℕ} (ground : Ground g source) {d : ℕ} {a : La
   written-is {v = v} {k = k} e far = distance-unique (l .written v k e) far
 
   -- the unset target of an edge of this layer is in the next one
-  pub unset-next : {u i : ℕ} → AtEdge g source d u i → isSet (distanceOf a (target g u i)) ≡ false → Distance g source (target g u i) (suc d)
+  pub unset-next : {u i : ℕ} → AtEdge g source d u i → isSet (distanceOf a (edgeTarget g u i)) ≡ false → Distance g source (edgeTarget g u i) (suc d)
   unset-next {u = u} {i = i} at unset = record {
     walk = onward (at .far .walk) (record { place = i; there = at .there; leads = refl });
     least = λ k w. go k w (leb k d) refl;
   }
     where
-      go : (k : ℕ) → Walk g source (target g u i) k → (b : Bool) → leb k d ≡ b → suc d ≤ k
-      go k w true q = absurd (true≢false (sym (l .near (target g u i) k w (leb-true k d q)) ∙ unset))
+      go : (k : ℕ) → Walk g source (edgeTarget g u i) k → (b : Bool) → leb k d ≡ b → suc d ≤ k
+      go k w true q = absurd (true≢false (sym (l .near (edgeTarget g u i) k w (leb-true k d q)) ∙ unset))
       go k w false q = leb-false k d q
 
   module _ {t : ℕ} (next : Distance g source t (suc d)) where

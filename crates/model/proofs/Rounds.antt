@@ -1,139 +1,46 @@
 -- Full rounds: in a search that isn't finished one of the events of a round is effective, so a schedule that doesn't finish has no more rounds
 -- than effective events.
 use mathlib.Core.Path.{_≡_, refl, sym, _∙_, ap}
-use mathlib.Core.Bool.{Bool, true, false, cond, not, _&&_, true≢false}
-use mathlib.Core.List.{List, [], _∷_, _++_, map, foldl, foldl-append}
-use mathlib.Core.Option.{Option, none, some}
+use mathlib.Core.Bool.{Bool, true, false, cond, _&&_, true≢false}
+use mathlib.Core.List.{List, [], _∷_, _++_, map}
+use mathlib.Core.Option.{Option, none, some, Option·none-ne-some}
 use Prim.Native.Nat.{ℕ, zero, suc, _+_, _*_, _≤_, _<_}
 use native.Mathlib.Omega.{arith}
 use lib.Dec.{eqb}
-use lib.ListN.{length, drop, set, length-set, length-map, length-append, length-drop}
+use lib.ListN.{length, drop, length-append, length-drop}
 use borrow.Author.Tests.{eqb-true, eqb-false, ne-eqb}
 use Rattle.lists.specs.Lists.{numbersFrom}
 use Rattle.graph.specs.Graph.{Graph}
-use Rattle.pennant.specs.Bag.{Bag, isEmpty, atLeastTwo}
+use Rattle.pennant.specs.Bag.{Bag, isEmpty}
 use Rattle.schedule.specs.declared.Event.{Event}
-use Rattle.schedule.specs.declared.Event.the-variants.{Work, Split, Unite, Close, Malformed}
+use Rattle.schedule.specs.declared.Event.the-variants.{Work, Close}
 use Rattle.schedule.specs.Events.{eventOf}
 use Rattle.schedule.proofs.Bytes.{event-work, event-close}
 use Rattle.model.specs.Paths.{Labels}
-use Rattle.model.specs.State.{Phase, free, holding, inHand, marked, named, Worker, worker, State, workerAt}
-use Rattle.model.specs.Table.{move, moved, splitInputs, uniteOutputs, allIdle, united, closed, act, handedIn, withWorkers}
+use Rattle.model.specs.State.{Phase, free, holding, inHand, marked, named, Worker, workerWith, State, workerAt}
+use Rattle.model.specs.Table.{move, moved, allIdle, united, closed, act}
 use Rattle.model.specs.Play.{Run, tally, step, playFrom, roundBytes, startsWith, rounds}
 use Rattle.model.proofs.Workers.{effective, Idle, all-idle}
-
--- no event adds or removes a worker
-
-moved-crew : (s t : State) (w : ℕ) (m : Option (Worker × Labels)) → moved s w m ≡ some t → length (t .workers) ≡ length (s .workers)
-unfolding moved
-moved-crew s t w none e = let z : _≡_ {A = ℕ} 0 1 = cc in absurd (omega arith)
-moved-crew s t w (some m) e =
-    let same : record { labels = m .1; workers = set (s .workers) w (m .0); layer = s .layer; finished = s .finished } ≡ t = cc in
-    rw (← same) (length-set (s .workers) w (m .0))
-
--- where the condition is met, the state is the one after
-crew-after : (s t u : State) (b : Bool) → length (u .workers) ≡ length (s .workers) → cond b (some u) none ≡ some t → length (t .workers) ≡ length (s .workers)
-crew-after s t u b same e = rw (← effective b u t e .1) same
-
-closed-crew : (s : State) (bag : Bag) (b : Bool) → isEmpty bag ≡ b → length (closed s bag .workers) ≡ length (s .workers)
-unfolding closed
-closed-crew s bag true e = rw e
-closed-crew s bag false e = rw e (length-set (map handedIn (s .workers)) 0 _ ∙ length-map (s .workers) handedIn)
-
-split-crew : (workers : List Worker) (w v : ℕ) → length (splitInputs workers w v) ≡ length workers
-unfolding splitInputs
-split-crew workers w v = simp length-set
-
-unite-crew : (workers : List Worker) (w v : ℕ) → length (uniteOutputs workers w v) ≡ length workers
-unfolding uniteOutputs
-unite-crew workers w v = simp length-set
-
-pub act-crew : (g : Graph) (s t : State) (e : Event) → act g s e ≡ some t → length (t .workers) ≡ length (s .workers)
-unfolding act
-act-crew g s t (Work w) h = moved-crew s t w _ h
-act-crew g s t (Split w v) h =
-    crew-after s t (withWorkers s (splitInputs (s .workers) w v)) (isEmpty (workerAt (s .workers) w .input) && atLeastTwo (workerAt (s .workers) v .input)) (split-crew (s .workers) w v) h
-act-crew g s t (Unite w v) h =
-    crew-after s t (withWorkers s (uniteOutputs (s .workers) w v)) (not (isEmpty (workerAt (s .workers) w .output)) && not (isEmpty (workerAt (s .workers) v .output))) (unite-crew (s .workers) w v) h
-act-crew g s t Close h = crew-after s t (closed s (united (s .workers))) (allIdle (s .workers)) (closed-crew s (united (s .workers)) _ refl) h
-act-crew g s t Malformed h = let z : _≡_ {A = ℕ} 0 1 = cc in absurd (omega arith)
-
--- One byte, and many.
-
--- a tally keeps the number of workers
-tally-crew : (g : Graph) (r : Run) (e : Event) (o : Option State) → act g (r .state) e ≡ o → length (tally r o .state .workers) ≡ length (r .state .workers)
-unfolding tally
-tally-crew g r e none h = refl
-tally-crew g r e (some t) h = act-crew g (r .state) t e h
-
--- a byte after the finishing event is not used
-pub step-over : (g : Graph) (r : Run) (byte : ℕ) → r .state .finished ≡ true → step g r byte ≡ r
-unfolding step
-step-over g r byte e = ap (λ (f : Bool). cond f r (tally r (act g (r .state) (eventOf byte)))) e
-
--- any other is
-pub step-on : (g : Graph) (r : Run) (byte : ℕ) → r .state .finished ≡ false → step g r byte ≡ tally r (act g (r .state) (eventOf byte))
-unfolding step
-step-on g r byte e = ap (λ (f : Bool). cond f r (tally r (act g (r .state) (eventOf byte)))) e
-
--- a byte keeps the number of workers
-pub step-crew : (g : Graph) (r : Run) (byte : ℕ) (f : Bool) → r .state .finished ≡ f → length (step g r byte .state .workers) ≡ length (r .state .workers)
-step-crew g r byte true e = ap (λ (q : Run). length (q .state .workers)) (step-over g r byte e)
-step-crew g r byte false e = ap (λ (q : Run). length (q .state .workers)) (step-on g r byte e) ∙ tally-crew g r (eventOf byte) _ refl
-
--- a tally counts what it has counted, or one more
-tally-grows : (r : Run) (o : Option State) → r .effective ≤ tally r o .effective
-unfolding tally
-tally-grows r none = omega arith
-tally-grows r (some t) = omega arith
-
--- a byte never lowers the count
-step-grows : (g : Graph) (r : Run) (byte : ℕ) (f : Bool) → r .state .finished ≡ f → r .effective ≤ step g r byte .effective
-step-grows g r byte true e = omega (arith, ap (λ (q : Run). q .effective) (step-over g r byte e))
-step-grows g r byte false e = omega (arith, ap (λ (q : Run). q .effective) (step-on g r byte e), tally-grows r (act g (r .state) (eventOf byte)))
-
--- nor do many
-play-grows : (g : Graph) (r : Run) (schedule : List ℕ) → r .effective ≤ playFrom g r schedule .effective
-unfolding playFrom
-play-grows g r [] = omega arith
-play-grows g r (byte ∷ schedule) = omega (arith, step-grows g r byte _ refl, play-grows g (step g r byte) schedule)
-
--- they keep the number of workers
-play-crew : (g : Graph) (r : Run) (schedule : List ℕ) → length (playFrom g r schedule .state .workers) ≡ length (r .state .workers)
-unfolding playFrom
-play-crew g r [] = refl
-play-crew g r (byte ∷ schedule) = play-crew g (step g r byte) schedule ∙ step-crew g r byte _ refl
-
--- once finished, nothing is used
-pub play-finished : (g : Graph) (r : Run) (schedule : List ℕ) → r .state .finished ≡ true → playFrom g r schedule ≡ r
-unfolding playFrom
-play-finished g r [] e = refl
-play-finished g r (byte ∷ schedule) e = ap (λ (q : Run). foldl (step g) q schedule) (step-over g r byte e) ∙ play-finished g r schedule e
-
--- a run that isn't finished at the end isn't finished at the start
-play-unfinished : (g : Graph) (r : Run) (schedule : List ℕ) (f : Bool) → r .state .finished ≡ f → playFrom g r schedule .state .finished ≡ false → f ≡ false
-play-unfinished g r schedule false e h = refl
-play-unfinished g r schedule true e h =
-    absurd (true≢false (sym e ∙ sym (ap (λ (q : Run). q .state .finished) (play-finished g r schedule e)) ∙ h))
+use Rattle.model.proofs.Plays.{step-on, step-crew, step-grows, play-grows, play-crew, play-unfinished, play-append}
 
 -- One round.
 
 -- a worker that cannot move is idle
 stuck-idle : (g : Graph) (d : ℕ) (x : Labels) (input output : Bag) (phase : Phase) (b : Bool) → isEmpty input ≡ b → move g d x input output phase ≡ none
-    → Idle (worker input output phase)
+    → Idle (workerWith input output phase)
 unfolding move
 stuck-idle g d x input output free true e h = record { input-empty = e; phase-free = refl }
-stuck-idle g d x input output free false e h = let k = rw e at h in let z : _≡_ {A = ℕ} 0 1 = cc in absurd (omega arith)
-stuck-idle g d x input output (holding u i) b e h = let z : _≡_ {A = ℕ} 0 1 = cc in absurd (omega arith)
-stuck-idle g d x input output (inHand u i t) b e h = let z : _≡_ {A = ℕ} 0 1 = cc in absurd (omega arith)
-stuck-idle g d x input output (marked u i t) b e h = let z : _≡_ {A = ℕ} 0 1 = cc in absurd (omega arith)
-stuck-idle g d x input output (named u i t) b e h = let z : _≡_ {A = ℕ} 0 1 = cc in absurd (omega arith)
+stuck-idle g d x input output free false e h = absurd (Option·none-ne-some _ (sym (rw e at h)))
+stuck-idle g d x input output (holding u i) b e h = absurd (Option·none-ne-some _ (sym h))
+stuck-idle g d x input output (inHand u i t) b e h = absurd (Option·none-ne-some _ (sym h))
+stuck-idle g d x input output (marked u i t) b e h = absurd (Option·none-ne-some _ (sym h))
+stuck-idle g d x input output (named u i t) b e h = absurd (Option·none-ne-some _ (sym h))
 
 -- .. and a move that is none is that of such a worker
 act-stuck : (s : State) (w : ℕ) (m : Option (Worker × Labels)) → moved s w m ≡ none → m ≡ none
 unfolding moved
 act-stuck s w none h = refl
-act-stuck s w (some m) h = let z : _≡_ {A = ℕ} 0 1 = cc in absurd (omega arith)
+act-stuck s w (some m) h = absurd (Option·none-ne-some _ (sym h))
 
 -- a close where all are idle is effective
 act-close : (g : Graph) (s : State) → allIdle (s .workers) ≡ true → act g s Close ≡ some (closed s (united (s .workers)))
@@ -202,11 +109,6 @@ full-round : (g : Graph) (P : ℕ) → 1 ≤ P → P ≤ 8 → (r : Run) → r .
     → suc (r .effective) ≤ playFrom g r (roundBytes P) .effective
 unfolding roundBytes
 full-round g P p q r live crew = round-grows g P q P 0 (omega arith) r live crew (λ w h. absurd (omega arith))
-
--- two schedules, one after the other
-pub play-append : (g : Graph) (r : Run) (a b : List ℕ) → playFrom g r (a ++ b) ≡ playFrom g (playFrom g r a) b
-unfolding playFrom
-play-append g r a b = foldl-append (step g) r a b
 
 -- Counting rounds where they stand.
 

@@ -18,7 +18,7 @@ use Rattle.lists.proofs.Or.{or-none}
 use Rattle.lists.proofs.Members.{keep, keep-order, kept, keeps, in-rows, row-of, range-in, in-range}
 use Rattle.lists.proofs.Parts.{place-below, getD-repeated}
 use Rattle.graph.specs.Graph.{Graph, edges}
-use Rattle.model.specs.Paths.{target, Joins, Labels, distanceOf, parentOf, isSet, Certified}
+use Rattle.model.specs.Paths.{edgeTarget, Joins, Labels, distanceOf, parentOf, isSet, Certified}
 use Rattle.model.specs.State.{openingLabels}
 use Rattle.model.specs.Table.{mark, name}
 use Rattle.model.specs.Serial.{Link, linksFrom, isAt, layerLinks, follow, anyAt, Serial, ended, layer}
@@ -121,7 +121,7 @@ module _ {x : Labels} {d : ℕ} {y : Labels} (p : Partly x d y) where
 module _ (g : Graph) (x : Labels) (d : ℕ) where
   -- where a link leads
   abbrev end : Link → ℕ
-  end e = target g (e .start) (e .place)
+  end e = edgeTarget g (e .start) (e .place)
 
   -- a link of the tree: by it x has its end's parent, and that end is at distance d + 1
   isTree : Link → Bool
@@ -344,12 +344,12 @@ module _ {g : Graph} {source : ℕ} {x : Labels} (c : Certified g source x) wher
               rw (a .link .leads, ← q) at (done .reached f (keeps (isTree g x d) among (is-tree g x d by-it)))
           go (no q) = near-set (done .partly) v k e (omega arith)
 
-      rest-set : (e : Link) → List·Memᴰ e rest → isSet (distanceOf z (target g (e .start) (e .place))) ≡ true
+      rest-set : (e : Link) → List·Memᴰ e rest → isSet (distanceOf z (edgeTarget g (e .start) (e .place))) ≡ true
       rest-set e m =
           let l = layer-only g d y e (kept (λ (f : Link). not (isTree g x d f)) links m .0) in
           let here : distanceOf x (e .start) ≡ some d = set-final p (e .start) d (l .from) in
           let r = c .onward (e .start) d (e .place) (vertex-below (e .start) d here) here (l .there) in
-          rw (next-set (target g (e .start) (e .place)) (r .0) (r .1) (r .2)) refl
+          rw (next-set (edgeTarget g (e .start) (e .place)) (r .0) (r .1) (r .2)) refl
 
   -- the run from distance d on
   run-from : ((v d : ℕ) → distanceOf x v ≡ some d → d < length g) → (fuel d : ℕ) (y : Labels) → d + fuel ≡ length g → Partly x d y

@@ -9,7 +9,7 @@ use lib.ListN.{length}
 use Rattle.lists.specs.Lists.{reaches}
 use Rattle.graph.specs.Graph.{Graph, edges, targetsOf}
 use Rattle.pennant.specs.Held.{copies, Shaped}
-use Rattle.model.specs.Paths.{target, Walk, Distance, Labels, distanceOf, parentOf, isSet, Nearer}
+use Rattle.model.specs.Paths.{edgeTarget, Walk, Distance, Labels, distanceOf, parentOf, isSet, Nearer}
 use Rattle.model.specs.State.{Phase, free, holding, inHand, marked, named, Worker, State, workerAt}
 use Rattle.model.proofs.Counts.{setOne, unsets, handOf, namingOf, atOf, inputs, outputs, hands, namings, ats}
 
@@ -45,7 +45,7 @@ module _ (g : Graph) (source : ℕ) where
   -- .. whose target t belongs to the next layer
   pub record WithTarget (d u i t : ℕ) : Type 0 where
     pub at : AtEdge d u i
-    pub leads : target g u i ≡ t
+    pub leads : edgeTarget g u i ≡ t
     pub next : Distance g source t (suc d)
 
   -- .. and has been marked
@@ -76,7 +76,7 @@ module _ (g : Graph) (source : ℕ) where
     -- output bags hold vertices that are set for the next one
     pub output-next : (v : ℕ) → 1 ≤ outputs v workers → distanceOf x v ≡ some (suc d)
     -- every edge of this layer is still to be looked at, or its target is set
-    pub covered : (u i : ℕ) → Distance g source u d → i < length (edges g u) → 1 ≤ inputs u workers + ats u i workers + setOne (distanceOf x (target g u i))
+    pub covered : (u i : ℕ) → Distance g source u d → i < length (edges g u) → 1 ≤ inputs u workers + ats u i workers + setOne (distanceOf x (edgeTarget g u i))
     -- every vertex set for the next layer is in an output bag or on its way there
     pub stowed : (v : ℕ) → distanceOf x v ≡ some (suc d) → 1 ≤ outputs v workers + hands v workers
     -- at most P copies
@@ -98,7 +98,7 @@ module _ (g : Graph) (source : ℕ) where
     pub inputs-fall : (v : ℕ) → copies v (y .input) ≤ copies v (x .input)
     pub outputs-set : (v : ℕ) → 1 ≤ copies v (y .output) → (1 ≤ copies v (x .output)) ⊎ (distanceOf b v ≡ some (suc d))
     pub edges-kept : (u i : ℕ) → Distance g source u d → i < length (edges g u) → 1 ≤ copies u (x .input) + atOf u i (x .phase)
-        → 1 ≤ copies u (y .input) + atOf u i (y .phase) + setOne (distanceOf b (target g u i))
+        → 1 ≤ copies u (y .input) + atOf u i (y .phase) + setOne (distanceOf b (edgeTarget g u i))
     pub copies-kept : (v : ℕ) → copies v (x .output) + handOf v (x .phase) ≤ copies v (y .output) + handOf v (y .phase)
     -- a vertex that becomes set is in this worker's hand
     pub newly-set : (v : ℕ) → distanceOf a v ≡ none → isSet (distanceOf b v) ≡ true → (1 ≤ handOf v (y .phase)) × (1 ≤ namingOf v (y .phase))

@@ -2,7 +2,7 @@
 use mathlib.Core.Path.{_≡_, refl, sym, _∙_, ap}
 use mathlib.Core.Bool.{Bool, true, false, cond, not, _&&_, and-eq-true-iff, true≢false}
 use mathlib.Core.List.{List, map}
-use mathlib.Core.Option.{Option, none, some}
+use mathlib.Core.Option.{Option, none, some, Option·none-ne-some, Option·some-injective}
 use Prim.Native.Nat.{ℕ, suc, _+_, _≤_, _<_}
 use native.Mathlib.Omega.{arith}
 use lib.ListN.{set}
@@ -16,14 +16,14 @@ use Rattle.schedule.specs.declared.Event.the-variants.{Work, Split, Unite, Clos
 use Rattle.schedule.specs.Events.{eventOf, within}
 use Rattle.schedule.proofs.Bytes.{within-work, within-split, within-unite, split-apart, unite-apart}
 use Rattle.model.specs.Paths.{Distance, Labels, Certified}
-use Rattle.model.specs.State.{free, Worker, worker, idleWorker, State, workerAt}
+use Rattle.model.specs.State.{free, Worker, workerWith, idleWorker, State, workerAt}
 use Rattle.model.specs.Table.{move, moved, withWorkers, handedIn, splitInputs, uniteOutputs, allIdle, united, closed, act}
 use Rattle.model.specs.Play.{Run, tally, step, eventBound}
 use Rattle.model.specs.Demand.{LayerOpen}
 use Rattle.model.proofs.Sound.{Ground, CrewSound, Sound}
 use Rattle.model.proofs.Workers.{effective}
 use Rattle.model.proofs.Cost.{cost}
-use Rattle.model.proofs.Rounds.{step-over, step-on}
+use Rattle.model.proofs.Plays.{step-over, step-on}
 use Rattle.model.proofs.Moving.{move-sound, move-moves}
 use Rattle.model.proofs.Crew.{crew-moves, crew-split, crew-unite}
 use Rattle.model.proofs.Closing.{close-sound, close-opens, close-certified}
@@ -77,10 +77,10 @@ module _ {g : Graph} {source : ℕ} (ground : Ground g source) {P : ℕ} where
       → move g (s .layer) (s .labels) (workerAt (s .workers) w .input) (workerAt (s .workers) w .output) (workerAt (s .workers) w .phase) ≡ m
       → moved s w m ≡ some t → Kept g source P s t
   unfolding moved
-  moved-kept s t w h below none e k = let z : _≡_ {A = ℕ} 0 1 = cc in absurd (omega arith)
+  moved-kept s t w h below none e k = absurd (Option·none-ne-some t k)
   moved-kept s t w h below (some m) e k =
       let after : State = record { labels = m .1; workers = set (s .workers) w (m .0); layer = s .layer; finished = s .finished } in
-      let same : after ≡ t = cc in
+      let same : after ≡ t = Option·some-injective after t k in
       let near = input-within (s .workers) (h .crew-sound) w in
       let one = h .crew-sound .each w in
       let sound : Sound g source P after = record {
@@ -123,7 +123,7 @@ closed-empty : (s : State) (bag : Bag) → isEmpty bag ≡ true → closed s bag
 unfolding closed
 closed-empty s bag e = ap (λ (b : Bool). cond b
     (record { labels = s .labels; workers = s .workers; layer = s .layer; finished = true })
-    (record { labels = s .labels; workers = set (map handedIn (s .workers)) 0 (worker bag emptyBag free); layer = suc (s .layer); finished = false })) e
+    (record { labels = s .labels; workers = set (map handedIn (s .workers)) 0 (workerWith bag emptyBag free); layer = suc (s .layer); finished = false })) e
 
 -- a close of any other: the search isn't finished
 closed-filled : (s : State) (bag : Bag) → isEmpty bag ≡ false → closed s bag .finished ≡ false
@@ -161,7 +161,7 @@ module _ {g : Graph} {source : ℕ} (ground : Ground g source) {P : ℕ} (some-w
   act-after s t Close h live fits k =
       let met = effective (allIdle (s .workers)) (closed s (united (s .workers))) t k in
       rw (← met .1) (closed-after s h (met .0) (rw (met .1) (close-cost ground some-worker h live k)) _ refl)
-  act-after s t Malformed h live fits k = let z : _≡_ {A = ℕ} 0 1 = cc in absurd (omega arith)
+  act-after s t Malformed h live fits k = absurd (Option·none-ne-some t k)
 
   -- a run so far: a sound state, what was paid and what is still to pay, and a certified result once it is finished
   pub record Good (r : Run) : Type 0 where

@@ -15,7 +15,7 @@ use Rattle.model.specs.Demand.{Accepted, LayerOpen, Demand}
 use Rattle.model.proofs.Sound.{Ground}
 use Rattle.model.proofs.Cost.{finishCost, cost}
 use Rattle.model.proofs.Rounds.{rounds-count}
-use Rattle.model.proofs.Used.{play-more, told}
+use Rattle.model.proofs.Used.{play-more, told-all}
 use Rattle.model.proofs.Steps.{Good, step-next}
 use Rattle.model.proofs.Certificate.{certified-right}
 use Rattle.model.proofs.Fits.{sound-fits}
@@ -104,9 +104,9 @@ module _ {g : Graph} {source P : ℕ} {schedule : List ℕ} (a : Accepted g sour
   finishes false e h = absurd (omega (arith, not-finished e, rounds-run e))
 
   -- demand 3, whole
-  pub demand : Demand g source P schedule
+  pub demand-holds : Demand g source P schedule
   unfolding stateAt
-  demand = record {
+  demand-holds = record {
     first-layer = rw (state-start g source P schedule) (opening-opens (accepted-ground a) P (a .some-worker));
     each-layer = layer-opens;
     final = λ k v d e. good-at k .sound .labels-sound .written v d e;
@@ -115,8 +115,8 @@ module _ {g : Graph} {source P : ℕ} {schedule : List ℕ} (a : Accepted g sour
     enough-rounds = λ h. finishes _ refl h;
     right-result = λ f. certified-right (accepted-ground a) (good-run .ended f);
     link-by-link = λ f. serial-run (accepted-ground a) (good-run .ended f) (sound-fits (accepted-ground a) (a .few-workers) (good-run .sound) .distances-below);
-    counted = told g source P schedule .counted;
-    used-spent = told g source P schedule .spent;
-    used-finished = λ f. let last = told g source P schedule .ended f in (last .place, last .used, last .before, last .after);
+    counted = told-all g source P schedule .counted;
+    used-spent = told-all g source P schedule .spent;
+    used-finished = λ f. let last = told-all g source P schedule .ended f in (last .place, last .used, last .before, last .after);
     fitting = λ k. sound-fits (accepted-ground a) (a .few-workers) (good-at k .sound);
   }

@@ -15,7 +15,7 @@ use Rattle.schedule.specs.Events.{eventOf}
 use Rattle.model.specs.State.{State, openingState}
 use Rattle.model.specs.Table.{act}
 use Rattle.model.specs.Play.{Run, tally, step, playFrom, play, stateAt, metOne, metAt}
-use Rattle.model.proofs.Rounds.{step-over, step-on, play-append}
+use Rattle.model.proofs.Plays.{step-over, step-on, play-append}
 
 module _ (g : Graph) (source P : ℕ) (schedule : List ℕ) where
   -- one more byte is one more step
@@ -73,5 +73,5 @@ module _ (g : Graph) (source P : ℕ) (schedule : List ℕ) where
   told-at (suc k) below = told-more k (omega arith) _ refl (told-at k (omega arith))
 
   -- and so at the end
-  pub told : Told (length schedule) (play g source P schedule)
-  told = rw (take-length schedule) at (told-at (length schedule) (omega arith))
+  pub told-all : Told (length schedule) (play g source P schedule)
+  told-all = rw (take-length schedule) at (told-at (length schedule) (omega arith))

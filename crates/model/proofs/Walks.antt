@@ -5,12 +5,12 @@ use native.Mathlib.Omega.{arith}
 use lib.ListN.{length}
 use Rattle.lists.proofs.Tests.{reaches-row, reaches-at}
 use Rattle.graph.specs.Graph.{Graph, edges, targetsOf}
-use Rattle.model.specs.Paths.{target, Joins, Walk, stay, onward, Distance}
+use Rattle.model.specs.Paths.{edgeTarget, Joins, Walk, stay, onward, Distance}
 use Rattle.model.proofs.Sound.{Ground}
 
 module _ {g : Graph} {source : ℕ} (ground : Ground g source) where
   -- every target is a vertex
-  pub target-below : (u i : ℕ) → i < length (edges g u) → target g u i < length g
+  pub target-below : (u i : ℕ) → i < length (edges g u) → edgeTarget g u i < length g
   unfolding targetsOf edges
   target-below u i h = reaches-at (length g) (edges g u) i (reaches-row (length g) g u (ground .below)) h
 

@@ -8,14 +8,14 @@ use lib.ListN.{length, getD}
 use Rattle.graph.specs.Graph.{Graph, edges}
 
 -- the target of edge i of u
-abbrev pub target : Graph → ℕ → ℕ → ℕ
-target g u i = getD (edges g u) i 0
+abbrev pub edgeTarget : Graph → ℕ → ℕ → ℕ
+edgeTarget g u i = getD (edges g u) i 0
 
 -- a link from u to t: one occurrence, by its place in u's row ("Repeated links and links to oneself are allowed")
 pub record Joins (g : Graph) (u t : ℕ) : Type 0 where
   pub place : ℕ
   pub there : place < length (edges g u)
-  pub leads : target g u place ≡ t
+  pub leads : edgeTarget g u place ≡ t
 
 -- a path of so many links from s
 pub data Walk (g : Graph) (s : ℕ) : ℕ → ℕ → Type 0 where
@@ -69,6 +69,6 @@ pub record Certified (g : Graph) (s : ℕ) (x : Labels) : Type 0 where
   pub parents-all : length (x .parents) ≡ length g
   pub source : distanceOf x s ≡ some 0
   pub own-parent : parentOf x s ≡ some s
-  pub onward : (u d i : ℕ) → u < length g → distanceOf x u ≡ some d → i < length (edges g u) → (k : ℕ) × (distanceOf x (target g u i) ≡ some k) × (k ≤ suc d)
+  pub onward : (u d i : ℕ) → u < length g → distanceOf x u ≡ some d → i < length (edges g u) → (k : ℕ) × (distanceOf x (edgeTarget g u i) ≡ some k) × (k ≤ suc d)
   pub no-parent : (v : ℕ) → v < length g → distanceOf x v ≡ none → parentOf x v ≡ none
   pub parent : (v : ℕ) → v < length g → (v ≡ s → ⊥) → isSet (distanceOf x v) ≡ true → (p : ℕ) × (parentOf x v ≡ some p) × Nearer g x p v

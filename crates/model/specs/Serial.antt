@@ -8,7 +8,7 @@ use lib.Dec.{eqb}
 use lib.ListN.{length}
 use Rattle.lists.specs.Lists.{numbersFrom}
 use Rattle.graph.specs.Graph.{Graph, edges}
-use Rattle.model.specs.Paths.{target, Labels, distanceOf, isSet}
+use Rattle.model.specs.Paths.{edgeTarget, Labels, distanceOf, isSet}
 use Rattle.model.specs.Table.{mark, name}
 
 -- one occurrence of a link: the vertex it starts at and its place in that row
@@ -32,7 +32,7 @@ layerLinks g d x = flatten (map (λ (u : ℕ). cond (isAt d (distanceOf x u)) (l
 -- "each link whose target is unset gives it distance d + 1 and its start as parent, before the next link is looked at"
 unfoldable pub follow : Graph → ℕ → Labels → Link → Labels
 follow g d x e =
-    let t = target g (e .start) (e .place) in
+    let t = edgeTarget g (e .start) (e .place) in
     cond (isSet (distanceOf x t)) x (name (e .start) t (mark d t x))
 
 -- whether some device has distance d

@@ -22,12 +22,12 @@ pub record Worker : Type 0 where
   pub phase : Phase
 
 -- the worker with these
-abbrev pub worker : Bag → Bag → Phase → Worker
-worker input output phase = record { input = input; output = output; phase = phase }
+abbrev pub workerWith : Bag → Bag → Phase → Worker
+workerWith input output phase = record { input = input; output = output; phase = phase }
 
 -- "all workers are free, all other bags empty"
 abbrev pub idleWorker : Worker
-idleWorker = worker emptyBag emptyBag free
+idleWorker = workerWith emptyBag emptyBag free
 
 -- the whole state: `layer` is document 01's d
 pub record State : Type 0 where
@@ -51,7 +51,7 @@ openingLabels n source = record {
 unfoldable pub openingState : ℕ → ℕ → ℕ → State
 openingState n source P = record {
   labels = openingLabels n source;
-  workers = set (replicate P idleWorker) 0 (worker (bagInsert source emptyBag) emptyBag free);
+  workers = set (replicate P idleWorker) 0 (workerWith (bagInsert source emptyBag) emptyBag free);
   layer = 0;
   finished = false;
 }

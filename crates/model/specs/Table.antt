@@ -9,8 +9,8 @@ use Rattle.graph.specs.Graph.{Graph, edges}
 use Rattle.pennant.specs.Bag.{Bag, emptyBag, bagInsert, bagUnion, splitFirst, splitSecond, takeRest, takenNumber, isEmpty, atLeastTwo}
 use Rattle.schedule.specs.declared.Event.{Event}
 use Rattle.schedule.specs.declared.Event.the-variants.{Work, Split, Unite, Close, Malformed}
-use Rattle.model.specs.Paths.{target, Labels, distanceOf, isSet}
-use Rattle.model.specs.State.{Phase, free, holding, inHand, marked, named, Worker, worker, State, workerAt}
+use Rattle.model.specs.Paths.{edgeTarget, Labels, distanceOf, isSet}
+use Rattle.model.specs.State.{Phase, free, holding, inHand, marked, named, Worker, workerWith, State, workerAt}
 
 -- at link i of u: "A device whose links are used up frees its worker."
 unfoldable pub holdAt : Graph → ℕ → ℕ → Phase
@@ -18,7 +18,7 @@ holdAt g u i = cond (ltb i (length (edges g u))) (holding u i) free
 
 -- "it looks at the next target t; if t's distance is unset it has t in hand, else it passes on"
 unfoldable pub look : Graph → Labels → ℕ → ℕ → Phase
-look g x u i = cond (isSet (distanceOf x (target g u i))) (holdAt g u (suc i)) (inHand u i (target g u i))
+look g x u i = cond (isSet (distanceOf x (edgeTarget g u i))) (holdAt g u (suc i)) (inHand u i (edgeTarget g u i))
 
 -- "mark (distance d + 1)"
 unfoldable pub mark : ℕ → ℕ → Labels → Labels
@@ -31,11 +31,11 @@ name u t x = record { distances = x .distances; parents = set (x .parents) t (so
 -- "worker w moves once. Free: it takes from its input bag, if that isn't empty. Holding u: it looks at the next target t .. With t in hand,
 -- three more moves: mark, name, stow (insert t into its output bag, pass on)": the worker and the labels after it
 unfoldable pub move : Graph → ℕ → Labels → Bag → Bag → Phase → Option (Worker × Labels)
-move g d x input output free = cond (isEmpty input) none (some (worker (takeRest input) output (holdAt g (takenNumber input) 0), x))
-move g d x input output (holding u i) = some (worker input output (look g x u i), x)
-move g d x input output (inHand u i t) = some (worker input output (marked u i t), mark d t x)
-move g d x input output (marked u i t) = some (worker input output (named u i t), name u t x)
-move g d x input output (named u i t) = some (worker input (bagInsert t output) (holdAt g u (suc i)), x)
+move g d x input output free = cond (isEmpty input) none (some (workerWith (takeRest input) output (holdAt g (takenNumber input) 0), x))
+move g d x input output (holding u i) = some (workerWith input output (look g x u i), x)
+move g d x input output (inHand u i t) = some (workerWith input output (marked u i t), mark d t x)
+move g d x input output (marked u i t) = some (workerWith input output (named u i t), name u t x)
+move g d x input output (named u i t) = some (workerWith input (bagInsert t output) (holdAt g u (suc i)), x)
 
 -- a move put into the state
 unfoldable pub moved : State → ℕ → Option (Worker × Labels) → Option State
@@ -51,14 +51,14 @@ unfoldable pub splitInputs : List Worker → ℕ → ℕ → List Worker
 splitInputs workers w v =
     let x = workerAt workers w in
     let y = workerAt workers v in
-    set (set workers v (worker (splitFirst (y .input)) (y .output) (y .phase))) w (worker (splitSecond (y .input)) (x .output) (x .phase))
+    set (set workers v (workerWith (splitFirst (y .input)) (y .output) (y .phase))) w (workerWith (splitSecond (y .input)) (x .output) (x .phase))
 
 -- "w's output bag is united into v's and left empty"
 unfoldable pub uniteOutputs : List Worker → ℕ → ℕ → List Worker
 uniteOutputs workers w v =
     let x = workerAt workers w in
     let y = workerAt workers v in
-    set (set workers v (worker (y .input) (bagUnion (y .output) (x .output)) (y .phase))) w (worker (x .input) emptyBag (x .phase))
+    set (set workers v (workerWith (y .input) (bagUnion (y .output) (x .output)) (y .phase))) w (workerWith (x .input) emptyBag (x .phase))
 
 -- whether a worker is free
 unfoldable pub isFree : Phase → Bool
@@ -79,18 +79,22 @@ united workers = foldl bagUnion (workerAt workers 0 .input) (map (λ (w : Worker
 
 -- a worker whose output bag has been united
 abbrev pub handedIn : Worker → Worker
-handedIn w = worker (w .input) emptyBag (w .phase)
+handedIn w = workerWith (w .input) emptyBag (w .phase)
 
 -- ".. and d grows by 1. If the united bag is empty, the search is finished instead and d stays."
 unfoldable pub closed : State → Bag → State
 closed s bag = cond (isEmpty bag)
     (record { labels = s .labels; workers = s .workers; layer = s .layer; finished = true })
-    (record { labels = s .labels; workers = set (map handedIn (s .workers)) 0 (worker bag emptyBag free); layer = suc (s .layer); finished = false })
+    (record { labels = s .labels; workers = set (map handedIn (s .workers)) 0 (workerWith bag emptyBag free); layer = suc (s .layer); finished = false })
 
 -- the table: "An event whose condition isn't met changes nothing. The others are effective."
 unfoldable pub act : Graph → State → Event → Option State
-act g s (Work w) = moved s w (move g (s .layer) (s .labels) (workerAt (s .workers) w .input) (workerAt (s .workers) w .output) (workerAt (s .workers) w .phase))
-act g s (Split w v) = cond (isEmpty (workerAt (s .workers) w .input) && atLeastTwo (workerAt (s .workers) v .input)) (some (withWorkers s (splitInputs (s .workers) w v))) none
-act g s (Unite w v) = cond (not (isEmpty (workerAt (s .workers) w .output)) && not (isEmpty (workerAt (s .workers) v .output))) (some (withWorkers s (uniteOutputs (s .workers) w v))) none
+act g s (Work w) = let x = workerAt (s .workers) w in moved s w (move g (s .layer) (s .labels) (x .input) (x .output) (x .phase))
+act g s (Split w v) =
+    let met = isEmpty (workerAt (s .workers) w .input) && atLeastTwo (workerAt (s .workers) v .input) in
+    cond met (some (withWorkers s (splitInputs (s .workers) w v))) none
+act g s (Unite w v) =
+    let met = not (isEmpty (workerAt (s .workers) w .output)) && not (isEmpty (workerAt (s .workers) v .output)) in
+    cond met (some (withWorkers s (uniteOutputs (s .workers) w v))) none
 act g s Close = cond (allIdle (s .workers)) (some (closed s (united (s .workers)))) none
 act g s Malformed = none
