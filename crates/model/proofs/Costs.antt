@@ -230,4 +230,5 @@ module _ {g : Graph} {source : ℕ} (ground : Ground g source) where
   unfolding cost openingState openingLabels eventBound targetsOf
   opening-cost zero p = absurd (omega arith)
   opening-cost (suc P) p =
-      rw (← unsets-source g source (ground .starts)) (omega (arith, opening-workers g (openingLabels (length g) source) source P))
+      let paid = ap (λ (k : ℕ). suc P * k) (unsets-source g source (ground .starts)) in
+      omega (arith, paid, opening-workers g (openingLabels (length g) source) source P)
