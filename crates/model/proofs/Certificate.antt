@@ -9,7 +9,7 @@ use lib.ListN.{length}
 use lib.Seq.{ext-getD}
 use Rattle.lists.proofs.Parts.{place-below}
 use Rattle.graph.specs.Graph.{Graph}
-use Rattle.model.specs.Paths.{Walk, stay, onward, Labels, distanceOf, Nearer, Right, Certified}
+use Rattle.model.specs.Paths.{Joins, Walk, stay, onward, Labels, distanceOf, parentOf, Right, Certified}
 use Rattle.model.proofs.Sound.{Ground}
 use Rattle.model.proofs.Walks.{walk-below, distance-unique}
 
@@ -18,6 +18,34 @@ record Within (x : Labels) (v k : ℕ) : Type 0 where
   value : ℕ
   is : distanceOf x v ≡ some value
   most : value ≤ k
+
+module _ {g : Graph} {source : ℕ} {x : Labels} (c : Certified g source x) where
+  -- a vertex that has a distance is one of the graph's
+  pub vertex-below : (v k : ℕ) → distanceOf x v ≡ some k → v < length g
+  vertex-below v k e = rw (c .distances-all) at (place-below (x .distances) v e)
+
+  -- a parent of distance d and a link from it
+  pub record Preceded (v d : ℕ) : Type 0 where
+    pub parent : ℕ
+    pub named : parentOf x v ≡ some parent
+    pub near : distanceOf x parent ≡ some d
+    pub link : Joins g parent v
+
+  -- a vertex other than the source has no distance 0
+  pub not-zero : (v : ℕ) → (v ≡ source → ⊥) → (k : ℕ) → distanceOf x v ≡ some k → 0 < k
+  not-zero v other k e = let r = c .parent v (vertex-below v k e) other (rw e) in omega (arith, mem-unique e (r .2 .there))
+
+  -- a vertex of distance d + 1 has such a parent
+  pub parent-before : (v d : ℕ) → distanceOf x v ≡ some (suc d) → Preceded v d
+  parent-before v d e =
+      let r = c .parent v (vertex-below v (suc d) e) (λ q. omega (arith, mem-unique (c .source) (rw q at e))) (rw e) in
+      let depth : r .2 .depth ≡ d = omega (arith, mem-unique (r .2 .there) e) in
+      record { parent = r .0; named = r .1; near = rw depth at (r .2 .here); link = r .2 .link }
+
+  -- a vertex set to d is the end of a path of d links: that of its parent and one link more
+  certified-walk : (d v : ℕ) → distanceOf x v ≡ some d → Walk g source v d
+  certified-walk zero v e = elim (ℕ-discrete v source) [ yes same ↦ rw same stay | no apart ↦ absurd (omega (arith, not-zero v apart 0 e)) ]
+  certified-walk (suc d) v e = let a = parent-before v d e in onward (certified-walk d (a .parent) (a .near)) (a .link)
 
 module _ {g : Graph} {source : ℕ} (ground : Ground g source) where
   module _ {x : Labels} (r : Right g source x) where
@@ -51,27 +79,13 @@ module _ {g : Graph} {source : ℕ} (ground : Ground g source) where
         let b = c .onward u (a .value) (j .place) (walk-below ground w) (a .is) (j .there) in
         record { value = b .0; is = rw (j .leads) at (b .1); most = omega (arith, a .most, b .2) }
 
-    -- .. a vertex that is set and isn't the source has a nearer one
-    certified-nearer : (v d : ℕ) → (v ≡ source → ⊥) → distanceOf x v ≡ some d → (p : ℕ) × Nearer g x p v
-    certified-nearer v d apart e = let n = c .parent v (rw (c .distances-all) at (place-below (x .distances) v e)) apart (rw e) in (n .0, n .2)
-
-    -- .. and a vertex set to d is the end of a path of d links: that of the nearer one and one link more
-    certified-walk : (d v : ℕ) → Dec (v ≡ source) → distanceOf x v ≡ some d → Walk g source v d
-    certified-walk zero v (yes same) e = rw same stay
-    certified-walk zero v (no apart) e = absurd (omega (arith, mem-unique (certified-nearer v 0 apart e .1 .there) e))
-    certified-walk (suc d) v (yes same) e = absurd (omega (arith, mem-unique (c .source) (rw same at e)))
-    certified-walk (suc d) v (no apart) e =
-        let n = certified-nearer v (suc d) apart e in
-        let same : n .1 .depth ≡ d = omega (arith, mem-unique (n .1 .there) e) in
-        onward (certified-walk d (n .0) (ℕ-discrete (n .0) source) (n .1 .here ∙ ap {B = Option ℕ} some same)) (n .1 .link)
-
     -- what is certified is right
     pub certified-right : Right g source x
     certified-right = record {
       distances-all = c .distances-all;
       parents-all = c .parents-all;
       shortest = λ v d h e. record {
-        walk = certified-walk d v (ℕ-discrete v source) e;
+        walk = certified-walk c d v e;
         least = λ k w. let a = certified-within w in omega (arith, a .most, mem-unique e (a .is));
       };
       unreached = λ v k h e w. let a = certified-within w in Option·none-ne-some (a .value) (sym e ∙ a .is);

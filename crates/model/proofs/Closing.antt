@@ -1,14 +1,15 @@
 -- A close, where all workers are free and all input bags empty: the united bag holds the next layer. If it isn't empty, the state that the close
 -- leaves is sound and opens that layer; if it is, the labels are certified.
-use mathlib.Core.Path.{_≡_, refl, sym, _∙_}
-use mathlib.Core.Bool.{Bool, true, false, true≢false}
+use mathlib.Core.Path.{_≡_, refl, _∙_}
+use mathlib.Core.Bool.{Bool, true, false}
 use mathlib.Core.List.{List, map}
 use mathlib.Core.Option.{Option, none, some}
 use Prim.Native.Nat.{ℕ, suc, _≤_, _<_}
+use native.Mathlib.Decide.{decLe, ℕ-discrete}
 use native.Mathlib.Omega.{arith}
-use lib.Dec.{eqb, leb, ltb}
+use lib.Dec.{leb, ltb}
 use lib.ListN.{length, set, length-map, List·getD-map}
-use borrow.Author.Tests.{ltb-true, ltb-false, leb-true, leb-false, eqb-true, eqb-false}
+use borrow.Author.Tests.{ltb-true, ltb-false, leb-true, leb-false}
 use Rattle.graph.specs.Graph.{Graph, edges}
 use Rattle.pennant.specs.Bag.{emptyBag, takenNumber, isEmpty}
 use Rattle.pennant.specs.Held.{only, copies}
@@ -17,12 +18,12 @@ use Rattle.model.specs.Paths.{edgeTarget, Walk, stay, onward, Distance, 
 use Rattle.model.specs.State.{free, Worker, workerWith, idleWorker, State, workerAt}
 use Rattle.model.specs.Table.{allIdle, united, handedIn, closed}
 use Rattle.model.specs.Demand.{LayerOpen}
-use Rattle.model.proofs.Counts.{setOne, outputs}
-use Rattle.model.proofs.Sound.{Ground, LabelsSound, CrewSound, Sound}
+use Rattle.model.proofs.Counts.{setOne, handOf, namingOf, atOf, outputs}
+use Rattle.model.proofs.Sound.{LabelsSound, CrewSound, Sound}
 use Rattle.model.proofs.Walks.{walk-last, distance-source}
-use Rattle.model.proofs.LabelFacts.{set-value, one-set, label-is}
+use Rattle.model.proofs.LabelFacts.{not-both, set-value, one-set, label-is}
 use Rattle.model.proofs.Workers.{empty-bag, weigh-unions, shaped-unions, Idle, idle-each}
-use Rattle.model.proofs.Fresh.{no-copies, no-hands, no-namings, no-ats}
+use Rattle.model.proofs.Fresh.{no-copies, none-busy}
 use Rattle.model.proofs.Fresh.{LayerBag, SpareCrew, fresh-sound, fresh-opens}
 
 -- The end of a layer: sound labels, and a sound crew that is idle.
@@ -46,7 +47,7 @@ module _ {g : Graph} {source P d : ℕ} {x : Labels} {workers : List Worker}
           let same : k ≡ d = omega (arith, ltb-false k d q) in
           let looked = c .covered u i (rw same at (l .written u k e)) there in
           let taken = no-copies (λ w. w .input) workers (λ w. idle w .input-empty) u in
-          one-set (distanceOf x (edgeTarget g u i)) (omega (arith, no-ats workers all-free u i))
+          one-set (distanceOf x (edgeTarget g u i)) (omega (arith, none-busy workers all-free (atOf u i) refl))
 
   -- what d + 1 links reach is set
   next-set : (v k : ℕ) → Walk g source v k → k ≤ suc d → isSet (distanceOf x v) ≡ true
@@ -66,7 +67,7 @@ module _ {g : Graph} {source P d : ℕ} {x : Labels} {workers : List Worker}
 
   -- every vertex that is set has its parent
   parent-set : (v : ℕ) → isSet (distanceOf x v) ≡ true → 1 ≤ setOne (parentOf x v)
-  parent-set v e = omega (arith, c .parented v e, no-namings workers all-free v)
+  parent-set v e = omega (arith, c .parented v e, none-busy workers all-free (namingOf v) refl)
 
   -- the united bag holds what the output bags hold
   united-copies : (v : ℕ) → copies v (united workers) ≡ outputs v workers
@@ -81,7 +82,7 @@ module _ {g : Graph} {source P d : ℕ} {x : Labels} {workers : List Worker}
 
   -- all of them
   next-united : (v : ℕ) → distanceOf x v ≡ some (suc d) → 1 ≤ copies v (united workers)
-  next-united v e = omega (arith, united-copies v, c .stowed v e, no-hands workers all-free v)
+  next-united v e = omega (arith, united-copies v, c .stowed v e, none-busy workers all-free (handOf v) refl)
 
   -- so it holds the next layer
   united-bag : LayerBag g source P (suc d) (united workers)
@@ -138,21 +139,16 @@ module _ {g : Graph} {source P d : ℕ} {x : Labels} {workers : List Worker}
 
   -- a vertex that has a parent is set
   named-set : (v p : ℕ) → parentOf x v ≡ some p → isSet (distanceOf x v) ≡ true
-  named-set v p e = go (eqb v source) refl
-    where
-      go : (b : Bool) → eqb v source ≡ b → isSet (distanceOf x v) ≡ true
-      go true q = rw (eqb-true v source q) (l .near source 0 stay (omega arith))
-      go false q = rw (l .parent v p (eqb-false v source q) e .there)
+  named-set v p e = elim (ℕ-discrete v source) [ yes q ↦ rw q (l .near source 0 stay (omega arith)) | no q ↦ rw (l .parent v p q e .there) ]
 
   -- if no output bag holds anything, no vertex is set for the next layer
   last-layer : isEmpty (united workers) ≡ true → (v k : ℕ) → distanceOf x v ≡ some k → k ≤ d
-  last-layer empty v k e = go (leb k d) refl
-    where
-      go : (b : Bool) → leb k d ≡ b → k ≤ d
-      go true q = leb-true k d q
-      go false q =
-          let same : k ≡ suc d = omega (arith, leb-false k d q, l .not-far v k e) in
-          absurd (omega (arith, next-united v (rw same at e), empty-weighs (only v) (united workers) empty))
+  last-layer empty v k e = elim (decLe k d) [
+    | yes h ↦ h
+    | no h ↦
+        let same : k ≡ suc d = omega (arith, l .not-far v k e) in
+        absurd (omega (arith, next-united v (rw same at e), empty-weighs (only v) (united workers) empty))
+  ]
 
   -- and the labels are certified
   last-certified : isEmpty (united workers) ≡ true → Certified g source x
@@ -173,9 +169,9 @@ module _ {g : Graph} {source P d : ℕ} {x : Labels} {workers : List Worker}
       -- a vertex that is unset has no parent
       unnamed : (v : ℕ) → distanceOf x v ≡ none → (p : Option ℕ) → parentOf x v ≡ p → p ≡ none
       unnamed v e none f = refl
-      unnamed v e (some p) f = absurd (true≢false (sym (named-set v p f) ∙ rw e))
+      unnamed v e (some p) f = not-both e (named-set v p f)
 
-module _ {g : Graph} {source : ℕ} (ground : Ground g source) where
+module _ {g : Graph} {source : ℕ} where
   -- a close that raises the layer leaves a sound state
   pub close-sound : {P : ℕ} {s : State} → 1 ≤ P → Sound g source P s → allIdle (s .workers) ≡ true → isEmpty (united (s .workers)) ≡ false
       → Sound g source P (closed s (united (s .workers)))

@@ -1,5 +1,5 @@
 -- A potential for the bound: what a state can still cost. It falls with every effective event and is at least 1 while the search isn't finished.
-use mathlib.Core.Bool.{Bool, cond}
+use mathlib.Core.Bool.{Bool, cond, not}
 use mathlib.Core.List.{List, [], _∷_}
 use mathlib.Core.Option.{Option, none, some}
 use Prim.Native.Nat.{ℕ, suc, _+_, _*_, _-_}
@@ -21,7 +21,7 @@ itemCost g v = 2 + degree g v
 
 -- 1 for a bag that isn't empty
 abbrev pub filledOne : Bag → ℕ
-filledOne s = cond (isEmpty s) 0 1
+filledOne s = cond (not (isEmpty s)) 1 0
 
 -- an input bag: every split makes one more bag that isn't empty
 abbrev pub inputCost : Graph → Bag → ℕ

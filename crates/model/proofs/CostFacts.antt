@@ -1,16 +1,15 @@
 -- Facts for the cost of a state: sums with elements replaced, and what bags, phases and labels cost.
 use mathlib.Core.Path.{_≡_, refl}
-use mathlib.Core.Bool.{Bool, true, false, cond}
+use mathlib.Core.Bool.{Bool, true, false, cond, not}
 use mathlib.Core.List.{List, [], _∷_, flatten}
 use mathlib.Core.Option.{Option, none, some}
 use Prim.Native.Nat.{ℕ, zero, suc, _+_, _*_, _-_, _≤_, _<_}
 use native.Mathlib.Omega.{arith}
-use lib.Dec.{eqb}
 use lib.ListN.{length, getD, set, replicate, length-append, length-replicate, getD-replicate}
-use lib.Seq.{getD-set-same, getD-set-other}
-use borrow.Author.Tests.{eqb-true, eqb-false}
-use Rattle.lists.specs.Lists.{sumOf}
-use Rattle.lists.proofs.Sums.{sum-set, sum-two, sum-most}
+use borrow.Author.Tests.{not-true}
+use Rattle.lists.proofs.Replaced.{set-cases}
+use Rattle.lists.proofs.Tests.{test-within}
+use Rattle.lists.proofs.Sums.{sum-most}
 use Rattle.graph.specs.Graph.{Graph, edges}
 use Rattle.pennant.specs.Bag.{Bag, emptyBag, isEmpty}
 use Rattle.pennant.specs.Held.{items, weigh, one, size}
@@ -21,18 +20,6 @@ use Rattle.model.specs.Table.{holdAt, look, mark}
 use Rattle.model.proofs.Workers.{hold-cases, empty-bag}
 use Rattle.model.proofs.Cost.{degree, itemCost, filledOne, outputCost, phaseCost, unsetCost, unsetsCost}
 
--- Sums.
-
-module _ {A : Type 0} (f : A → ℕ) (l : List A) where
-  -- an element replaced by one that weighs less
-  pub sum-fall : (i : ℕ) (y d : A) → i < length l → suc (f y) ≤ f (getD l i d) → suc (sumOf f (set l i y)) ≤ sumOf f l
-  sum-fall i y d h less = omega (arith, sum-set f l i y d h)
-
-  -- two elements replaced by two that weigh less together
-  pub sum-two-fall : (i j : ℕ) (y z d : A) → i < length l → j < length l → (j ≡ i → ⊥)
-      → suc (f y + f z) ≤ f (getD l i d) + f (getD l j d) → suc (sumOf f (set (set l i y) j z)) ≤ sumOf f l
-  sum-two-fall i j y z d h k apart less = omega (arith, sum-two f l j i z y d k h apart)
-
 -- Bags.
 
 -- a bag that isn't empty counts once
@@ -41,22 +28,14 @@ filled-one s e = rw e
 
 -- no bag counts more than once
 pub filled-most : (s : Bag) → filledOne s ≤ 1
-filled-most s = go (isEmpty s)
-  where
-    go : (b : Bool) → cond {A = ℕ} b 0 1 ≤ 1
-    go true = omega arith
-    go false = omega arith
+filled-most s = test-within (not (isEmpty s)) 1 (λ e. omega arith)
 
 -- nor more than it weighs
 pub filled-weighs : (g : Graph) (s : Bag) → filledOne s ≤ weigh (itemCost g) s
-filled-weighs g s = go (isEmpty s) refl
+filled-weighs g s = test-within (not (isEmpty s)) (weigh (itemCost g) s) (λ e. omega (arith, filled-size s (not-true (isEmpty s) e), sizes))
   where
     sizes : size s ≤ weigh (itemCost g) s
     sizes = rw (weigh-items one s, weigh-items (itemCost g) s) (omega (arith, sum-most one (itemCost g) 0 (λ v. omega arith) (items s)))
-
-    go : (b : Bool) → isEmpty s ≡ b → cond {A = ℕ} b 0 1 ≤ weigh (itemCost g) s
-    go true e = omega arith
-    go false e = omega (arith, filled-size s e, sizes)
 
 -- the empty bag costs nothing as an output bag
 pub empty-output : (g : Graph) → outputCost g emptyBag ≡ 0
@@ -128,8 +107,6 @@ hand-paid (some k) row = omega arith
 pub mark-hand : (g : Graph) (d t : ℕ) (x : Labels) → t < length (x .distances) → (v : ℕ)
     → handCost g (mark d t x) v ≤ handCost g x v + unsetCost (distanceOf x t) (edges g t)
 unfolding mark
-mark-hand g d t x h v = go (eqb v t) refl
-  where
-    go : (b : Bool) → eqb v t ≡ b → handCost g (mark d t x) v ≤ handCost g x v + unsetCost (distanceOf x t) (edges g t)
-    go true e = rw (eqb-true v t e, getD-set-same (x .distances) t (some (suc d)) none h) (omega (arith, hand-paid (distanceOf x t) (edges g t)))
-    go false e = rw (getD-set-other (x .distances) t v (some (suc d)) none (eqb-false v t e)) (omega arith)
+mark-hand g d t x h v = set-cases (x .distances) t v (some (suc d)) none (distanceOf (mark d t x) v) h refl
+    (λ q r. rw (q, ← (rw q at r)) (omega (arith, hand-paid (distanceOf x t) (edges g t))))
+    (λ apart r. rw (← r) (omega arith))

@@ -3,14 +3,15 @@ use mathlib.Core.Path.{_≡_, refl, ap}
 use mathlib.Core.Bool.{Bool, true, false, cond, not, and-eq-true-iff}
 use mathlib.Core.List.{List, [], _∷_, map}
 use mathlib.Core.Option.{Option, none, some, Option·none-ne-some, Option·some-injective}
-use Prim.Native.Nat.{ℕ, zero, suc, _+_, _*_, _≤_, _<_}
-use native.Mathlib.Nat.{le-refl}
+use Prim.Native.Nat.{ℕ, suc, _+_, _*_, _≤_, _<_}
+use native.Mathlib.Nat.{le-refl, mul-le-mul-right}
 use native.Mathlib.Omega.{arith}
-use lib.ListN.{length, set, replicate}
+use lib.ListN.{length, set, replicate, length-replicate}
 use lib.Seq.{getD-set-same}
 use borrow.Author.Tests.{not-true}
 use Rattle.lists.specs.Lists.{sumOf}
-use Rattle.lists.proofs.Sums.{sum-most, sum-replicate}
+use Rattle.lists.proofs.Sums.{sum-set, sum-two, sum-most, sum-first}
+use Rattle.lists.proofs.Parts.{getD-repeated}
 use Rattle.graph.specs.Graph.{Graph, edges, targetsOf}
 use Rattle.pennant.specs.Bag.{Bag, emptyBag, bagInsert, bagUnion, splitFirst, splitSecond, takeRest, takenNumber, isEmpty, atLeastTwo}
 use Rattle.pennant.specs.Held.{weigh, Shaped}
@@ -25,7 +26,7 @@ use Rattle.model.proofs.Sound.{Ground, PhaseSound, Sound}
 use Rattle.model.proofs.Walks.{target-below}
 use Rattle.model.proofs.Workers.{effective, weigh-unions, idle-first}
 use Rattle.model.proofs.Cost.{degree, itemCost, phaseCost, workerCost, unsetCost, unsetsCost, cost}
-use Rattle.model.proofs.CostFacts.{sum-fall, sum-two-fall, filled-one, filled-most, filled-weighs}
+use Rattle.model.proofs.CostFacts.{filled-one, filled-most, filled-weighs}
 use Rattle.model.proofs.CostFacts.{empty-output, handCost, phase-most, hold-cost, look-cost}
 use Rattle.model.proofs.CostFacts.{unsets-set, unsets-source, mark-hand}
 
@@ -126,13 +127,13 @@ module _ (g : Graph) where
   -- Opening.
 
   -- idle workers, and the source in the input bag of the first one
-  opening-workers : (x : Labels) (source P : ℕ)
-      → sumOf (workerCost g x) (set (replicate (suc P) idleWorker) 0 (workerWith (bagInsert source emptyBag) emptyBag free)) ≤ 2 + degree g source
-  unfolding sumOf
-  opening-workers x source P =
+  opening-workers : (x : Labels) (source P : ℕ) → 1 ≤ P
+      → sumOf (workerCost g x) (set (replicate P idleWorker) 0 (workerWith (bagInsert source emptyBag) emptyBag free)) ≤ 2 + degree g source
+  opening-workers x source P p =
+      let first = workerWith (bagInsert source emptyBag) emptyBag free in
       let idle : workerCost g x idleWorker ≡ 0 = omega (arith, weigh-empty (itemCost g), empty-output g) in
-      let rest = rw idle at (sum-replicate (workerCost g x) P idleWorker) in
-      omega (arith, weigh-insert (itemCost g) source emptyBag, weigh-empty (itemCost g), empty-output g)
+      let all = sum-first (workerCost g x) idleWorker (replicate P idleWorker) first (rw length-replicate p) (λ i. rw (getD-repeated P i idleWorker) idle) in
+      omega (arith, all, weigh-insert (itemCost g) source emptyBag, weigh-empty (itemCost g), empty-output g)
 
 module _ {g : Graph} {source : ℕ} (ground : Ground g source) where
   -- every move of a worker lowers the cost
@@ -163,9 +164,9 @@ module _ {g : Graph} {source : ℕ} (ground : Ground g source) where
       go none low e = absurd (Option·none-ne-some t e)
       go (some m) low e =
           let crew = h .crew-sound .crew in
-          let worker-less = sum-fall (workerCost g (m .1)) (s .workers) w (m .0) idleWorker (rw crew below) (low .worker-falls) in
+          let worker-less = sum-set (workerCost g (m .1)) (s .workers) w (m .0) idleWorker (rw crew below) in
           let labels-less = rw crew at (low .labels-fall (s .workers)) in
-          rw (← Option·some-injective _ t e) (omega arith)
+          rw (← Option·some-injective _ t e) (omega (arith, low .worker-falls))
 
   -- two workers replaced by two that cost less together
   two-cost : {P : ℕ} {s : State} (w v : ℕ) (x y : Worker) → Sound g source P s → w < P → v < P → (w ≡ v → ⊥)
@@ -175,7 +176,7 @@ module _ {g : Graph} {source : ℕ} (ground : Ground g source) where
   unfolding cost
   two-cost {P} {s} w v x y h k l apart less =
       let crew = h .crew-sound .crew in
-      omega (arith, sum-two-fall (workerCost g (s .labels)) (s .workers) v w y x idleWorker (rw crew l) (rw crew k) apart less)
+      omega (arith, sum-two (workerCost g (s .labels)) (s .workers) w v x y idleWorker (rw crew k) (rw crew l) apart)
 
   -- an effective split lowers the cost: one more input bag isn't empty
   pub split-cost : {P : ℕ} {s t : State} (w v : ℕ) → Sound g source P s → w < P → v < P → (w ≡ v → ⊥) → act g s (Split w v) ≡ some t
@@ -228,7 +229,7 @@ module _ {g : Graph} {source : ℕ} (ground : Ground g source) where
   -- the opening state costs no more than the bound
   pub opening-cost : (P : ℕ) → 1 ≤ P → cost P g (openingState (length g) source P) ≤ eventBound g P
   unfolding cost openingState openingLabels eventBound targetsOf
-  opening-cost zero p = absurd (omega arith)
-  opening-cost (suc P) p =
-      let paid = ap (λ (k : ℕ). suc P * k) (unsets-source g source (ground .starts)) in
-      omega (arith, paid, opening-workers g (openingLabels (length g) source) source P)
+  opening-cost P p =
+      let one = mul-le-mul-right (6 + degree g source) p in
+      let paid = ap (λ (k : ℕ). P * k) (unsets-source g source (ground .starts)) in
+      omega (arith, one, paid, opening-workers g (openingLabels (length g) source) source P p)

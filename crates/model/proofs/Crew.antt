@@ -22,7 +22,7 @@ use Rattle.model.specs.State.{Phase, free, holding, inHand, marked, name
 use Rattle.model.specs.Table.{splitInputs, uniteOutputs}
 use Rattle.model.proofs.Counts.{setOne, handOf, namingOf, atOf, inputs, outputs, hands, namings, ats}
 use Rattle.model.proofs.LabelFacts.{set-kept}
-use Rattle.model.proofs.Sound.{Ground, PhaseSound, WorkerSound, CrewSound, Moves}
+use Rattle.model.proofs.Sound.{PhaseSound, WorkerSound, CrewSound, Moves}
 
 -- a worker has a vertex in hand at most once
 hand-few : (v : ℕ) (phase : Phase) → handOf v phase ≤ 1
@@ -32,7 +32,7 @@ hand-few v (inHand u i t) = test-within (eqb t v) 1 (λ e. omega arith)
 hand-few v (marked u i t) = test-within (eqb t v) 1 (λ e. omega arith)
 hand-few v (named u i t) = test-within (eqb t v) 1 (λ e. omega arith)
 
-module _ {g : Graph} {source : ℕ} (ground : Ground g source) where
+module _ {g : Graph} {source : ℕ} where
   module _ {P d : ℕ} {a b : Labels} (workers : List Worker) (w : ℕ) (y : Worker)
       (c : CrewSound g source P d a workers) (h : w < P) (m : Moves g source d a b (workerAt workers w) y) where
     -- how a sum over all workers changes: worker w weighs no more than all do, and y comes in its place
@@ -51,17 +51,9 @@ module _ {g : Graph} {source : ℕ} (ground : Ground g source) where
     outputs-change : (v : ℕ) → Changes (λ (x : Worker). copies v (x .output))
     outputs-change v = sum-changes (λ (x : Worker). copies v (x .output)) (weigh-empty (only v))
 
-    -- .. the workers with v in hand, marked or named, ..
-    hands-change : (v : ℕ) → Changes (λ (x : Worker). handOf v (x .phase))
-    hands-change v = sum-changes (λ (x : Worker). handOf v (x .phase)) refl
-
-    -- .. those that have marked v and not yet named it, ..
-    namings-change : (v : ℕ) → Changes (λ (x : Worker). namingOf v (x .phase))
-    namings-change v = sum-changes (λ (x : Worker). namingOf v (x .phase)) refl
-
-    -- .. and those at u, at edge i or before
-    ats-change : (u i : ℕ) → Changes (λ (x : Worker). atOf u i (x .phase))
-    ats-change u i = sum-changes (λ (x : Worker). atOf u i (x .phase)) refl
+    -- .. and what the phases count
+    phases-change : (f : Phase → ℕ) → f free ≡ 0 → Changes (λ (x : Worker). f (x .phase))
+    phases-change f zero = sum-changes (λ (x : Worker). f (x .phase)) zero
 
     -- a phase stays sound with the labels after the move
     phase-kept : (phase : Phase) → PhaseSound g source d a phase → PhaseSound g source d b phase
@@ -89,23 +81,20 @@ module _ {g : Graph} {source : ℕ} (ground : Ground g source) where
         → 1 ≤ inputs u (set workers w y) + ats u i (set workers w y) + setOne (distanceOf b (edgeTarget g u i))
     covered-kept u i far there =
         let target-set = set-kept (distanceOf a (edgeTarget g u i)) (distanceOf b (edgeTarget g u i)) (m .keeps (edgeTarget g u i)) in
-        elim (decLe 1 (copies u (workerAt workers w .input) + atOf u i (workerAt workers w .phase))) [
-          | yes here ↦ omega (arith, inputs-change u, ats-change u i, m .edges-kept u i far there here)
-          | no away ↦ omega (arith, inputs-change u, ats-change u i, c .covered u i far there)
-        ]
+        omega (arith, inputs-change u, phases-change (atOf u i) refl, m .edges-kept u i there, c .covered u i far there)
 
     -- every vertex set for the next layer is in an output bag or on its way there
     stowed-kept : (v : ℕ) → distanceOf b v ≡ some (suc d) → 1 ≤ outputs v (set workers w y) + hands v (set workers w y)
     stowed-kept v next = go (distanceOf a v) refl
       where
         go : (l : Option ℕ) → distanceOf a v ≡ l → 1 ≤ outputs v (set workers w y) + hands v (set workers w y)
-        go none e = omega (arith, hands-change v, m .newly-set v e (rw next refl))
-        go (some k) e = omega (arith, outputs-change v, hands-change v, m .copies-kept v, c .stowed v (e ∙ sym (m .keeps v k e) ∙ next))
+        go none e = omega (arith, phases-change (handOf v) refl, m .newly-set v e (rw next refl))
+        go (some k) e = omega (arith, outputs-change v, phases-change (handOf v) refl, m .copies-kept v, c .stowed v (e ∙ sym (m .keeps v k e) ∙ next))
 
     -- at most P copies: an unset vertex is in no output bag, and in at most one hand of each worker
     few-kept : (v : ℕ) → outputs v (set workers w y) + hands v (set workers w y) ≤ P
     few-kept v = elim (m .copies-added v) [
-      | inl same ↦ omega (arith, outputs-change v, hands-change v, c .few-outputs v)
+      | inl same ↦ omega (arith, outputs-change v, phases-change (handOf v) refl, c .few-outputs v)
       | inr added ↦ elim (decLe 1 (outputs v workers)) [
         | yes held ↦ absurd (omega (arith, ap setOne (sym (added .0) ∙ c .output-next v held)))
         | no away ↦ omega (
@@ -122,9 +111,9 @@ module _ {g : Graph} {source : ℕ} (ground : Ground g source) where
     parented-kept v is = go (distanceOf a v) refl
       where
         go : (l : Option ℕ) → distanceOf a v ≡ l → 1 ≤ namings v (set workers w y) + setOne (parentOf b v)
-        go none e = omega (arith, namings-change v, m .newly-set v e is)
+        go none e = omega (arith, phases-change (namingOf v) refl, m .newly-set v e is)
         go (some k) e = elim (m .parents-kept v) [
-          | inl kept ↦ omega (arith, namings-change v, c .parented v (rw e refl))
+          | inl kept ↦ omega (arith, phases-change (namingOf v) refl, c .parented v (rw e refl))
           | inr has ↦ omega arith
         ]
 

@@ -78,13 +78,13 @@ module _ {g : Graph} {source : ℕ} (ground : Ground g source) where
 
     -- at most P copies of a vertex are in bags, since no vertex belongs to two layers
     held-few : (v : ℕ) → inputs v (s .workers) + outputs v (s .workers) ≤ P
-    held-few v = go (decLe 1 (inputs v (s .workers))) (decLe 1 (outputs v (s .workers)))
-      where
-        go : Dec (1 ≤ inputs v (s .workers)) → Dec (1 ≤ outputs v (s .workers)) → inputs v (s .workers) + outputs v (s .workers) ≤ P
-        go (yes a) (yes b) = absurd (omega (arith, distance-unique (h .crew-sound .input-near v a) (output-far v b)))
-        go (yes a) (no b) = omega (arith, h .crew-sound .few-inputs v)
-        go (no a) (yes b) = omega (arith, h .crew-sound .few-outputs v)
-        go (no a) (no b) = omega arith
+    held-few v = elim (decLe 1 (inputs v (s .workers))) [
+      | no a ↦ omega (arith, h .crew-sound .few-outputs v)
+      | yes a ↦ elim (decLe 1 (outputs v (s .workers))) [
+        | yes b ↦ absurd (omega (arith, distance-unique (h .crew-sound .input-near v a) (output-far v b)))
+        | no b ↦ omega (arith, h .crew-sound .few-inputs v)
+      ]
+    ]
 
     -- all bags together hold at most P * n numbers
     held-most : held (s .workers) ≤ P * length g

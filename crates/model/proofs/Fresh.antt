@@ -15,9 +15,9 @@ use Rattle.pennant.specs.Bag.{Bag, emptyBag, isEmpty}
 use Rattle.pennant.specs.Held.{only, copies, Shaped}
 use Rattle.pennant.proofs.Laws.{empty-weighs, shaped-empty}
 use Rattle.model.specs.Paths.{Distance, Labels, distanceOf, parentOf, isSet}
-use Rattle.model.specs.State.{free, Worker, workerWith, idleWorker, workerAt}
+use Rattle.model.specs.State.{Phase, free, Worker, workerWith, idleWorker, workerAt}
 use Rattle.model.specs.Demand.{LayerOpen}
-use Rattle.model.proofs.Counts.{setOne, handOf, namingOf, atOf, inputs, hands, namings, ats}
+use Rattle.model.proofs.Counts.{setOne, handOf, inputs}
 use Rattle.model.proofs.Workers.{empty-bag, Idle, idle-worker}
 use Rattle.model.proofs.Sound.{WorkerSound, CrewSound}
 
@@ -47,17 +47,9 @@ no-copies bagOf workers empty v =
 
 -- workers that are all free
 module _ (workers : List Worker) (all-free : (w : ℕ) → workerAt workers w .phase ≡ free) where
-  -- have no vertex in hand
-  pub no-hands : (v : ℕ) → hands v workers ≡ 0
-  no-hands v = sum-none (λ (w : Worker). handOf v (w .phase)) idleWorker workers (λ w. rw (all-free w))
-
-  -- none to name
-  pub no-namings : (v : ℕ) → namings v workers ≡ 0
-  no-namings v = sum-none (λ (w : Worker). namingOf v (w .phase)) idleWorker workers (λ w. rw (all-free w))
-
-  -- and no edge to look at
-  pub no-ats : (u i : ℕ) → ats u i workers ≡ 0
-  no-ats u i = sum-none (λ (w : Worker). atOf u i (w .phase)) idleWorker workers (λ w. rw (all-free w))
+  -- weigh nothing, if a free one does
+  pub none-busy : (f : Phase → ℕ) → f free ≡ 0 → sumOf (λ (w : Worker). f (w .phase)) workers ≡ 0
+  none-busy f z = sum-none (λ (w : Worker). f (w .phase)) idleWorker workers (λ w. rw (all-free w) z)
 
 -- The start of a layer.
 
@@ -118,7 +110,7 @@ module _ {g : Graph} {source P d : ℕ} {spares : List Worker} {bag : Bag} (spar
     output-next = λ v h. absurd (omega (arith, no-copies (λ w. w .output) fresh fresh-outputs v));
     covered = λ u i far there. omega (arith, fresh-inputs u, holds .every u far);
     stowed = λ v e. absurd (none-next v e);
-    few-outputs = λ v. omega (arith, no-copies (λ w. w .output) fresh fresh-outputs v, no-hands fresh fresh-free v);
+    few-outputs = λ v. omega (arith, no-copies (λ w. w .output) fresh fresh-outputs v, none-busy fresh fresh-free (handOf v) refl);
     few-inputs = λ v. omega (arith, fresh-inputs v, holds .at-most v);
     parented = λ v e. omega (arith, parented v e);
   }

@@ -1,5 +1,6 @@
 -- Demand 3, proved of playing any schedule: Theorem.antt, by way of the files before it.
 pub mod Bench
+pub mod Alone
 pub mod Counts
 pub mod Sound
 pub mod Walks

@@ -72,7 +72,7 @@ module _ {g : Graph} {source d : ℕ} {a : Labels} where
     keeps = λ v k e. e;
     inputs-fall = inputs-fall;
     outputs-set = outputs-set;
-    edges-kept = λ v j near there h. omega (arith, edges-kept v j there);
+    edges-kept = edges-kept;
     copies-kept = λ v. omega (arith, copies-same v);
     newly-set = λ v e s. not-both e s;
     copies-added = λ v. inl (omega (arith, copies-same v, hold-hand g u i v));
@@ -131,7 +131,7 @@ module _ {g : Graph} {source : ℕ} (ground : Ground g source) where
       keeps = λ v k e. e;
       inputs-fall = λ v. omega arith;
       outputs-set = λ v h. inl h;
-      edges-kept = λ v j near there h. omega arith;
+      edges-kept = λ v j there. omega arith;
       copies-kept = λ v. omega arith;
       newly-set = λ v e s. not-both e s;
       copies-added = λ v. added v (eqb (edgeTarget g u i) v) refl;
@@ -154,7 +154,7 @@ module _ {g : Graph} {source : ℕ} (ground : Ground g source) where
           keeps = mark-keeps ground l next;
           inputs-fall = λ v. omega arith;
           outputs-set = λ v h. inl h;
-          edges-kept = λ v j near there h. omega arith;
+          edges-kept = λ v j there. omega arith;
           copies-kept = λ v. omega arith;
           newly-set = λ v e s. mark-cases ground l next v (distanceOf (mark d t a) v) refl
               (λ q r. let here : only v t ≡ 1 = rw q (only-self t) in omega arith)
@@ -172,7 +172,7 @@ module _ {g : Graph} {source : ℕ} (ground : Ground g source) where
       keeps = λ v k e. e;
       inputs-fall = λ v. omega arith;
       outputs-set = λ v h. inl h;
-      edges-kept = λ v j near there h. omega arith;
+      edges-kept = λ v j there. omega arith;
       copies-kept = λ v. omega arith;
       newly-set = λ v e s. not-both e s;
       copies-added = λ v. inl refl;
@@ -210,14 +210,8 @@ module _ {g : Graph} {source : ℕ} (ground : Ground g source) where
     move-each input output (marked u i t) w near = (name-sound ground l (w .phase-sound), name-moves w)
     move-each input output (named u i t) w near = (l, stow-moves w)
 
-  -- a move keeps the labels sound
-  pub move-sound : {d : ℕ} {a : Labels} {x : Worker} {m : Worker × Labels} → LabelsSound g source d a → WorkerSound g source d a x
+  -- a move keeps the labels sound, and does to the sums what is claimed of a move
+  pub move-after : {d : ℕ} {a : Labels} {x : Worker} {m : Worker × Labels} → LabelsSound g source d a → WorkerSound g source d a x
       → ((v : ℕ) → 1 ≤ copies v (x .input) → Distance g source v d) → move g d a (x .input) (x .output) (x .phase) ≡ some m
-      → LabelsSound g source d (m .1)
-  move-sound {x = x} l w near e = (rw e at (move-each l (x .input) (x .output) (x .phase) w near)) .0
-
-  -- and it does to the sums what is claimed of a move
-  pub move-moves : {d : ℕ} {a : Labels} {x : Worker} {m : Worker × Labels} → LabelsSound g source d a → WorkerSound g source d a x
-      → ((v : ℕ) → 1 ≤ copies v (x .input) → Distance g source v d) → move g d a (x .input) (x .output) (x .phase) ≡ some m
-      → Moves g source d a (m .1) x (m .0)
-  move-moves {x = x} l w near e = (rw e at (move-each l (x .input) (x .output) (x .phase) w near)) .1
+      → LabelsSound g source d (m .1) × Moves g source d a (m .1) x (m .0)
+  move-after {x = x} l w near e = rw e at (move-each l (x .input) (x .output) (x .phase) w near)

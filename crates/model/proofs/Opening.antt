@@ -1,14 +1,15 @@
 -- The opening state is sound and opens layer 0: the source alone is labelled, and it is alone in worker 0's input bag.
-use mathlib.Core.Path.{_≡_, refl, ap, _∙_}
+use mathlib.Core.Path.{_≡_, refl, sym, ap, _∙_}
 use mathlib.Core.Bool.{Bool, true, false}
 use mathlib.Core.List.{List}
-use mathlib.Core.Option.{Option, none, some}
+use mathlib.Core.Option.{Option, none, some, Option·some-injective, Option·none-ne-some}
+use Rattle.lists.proofs.Replaced.{set-cases}
 use Prim.Native.Nat.{ℕ, _+_, _≤_, _<_}
 use native.Mathlib.Omega.{arith}
 use lib.Dec.{eqb}
 use lib.ListN.{length, getD, set, replicate, length-set, length-replicate}
-use lib.Seq.{getD-set-same, getD-set-other}
-use borrow.Author.Tests.{eqb-true, eqb-false}
+use lib.Seq.{getD-set-same}
+use borrow.Author.Tests.{eqb-true}
 use Rattle.lists.proofs.Sums.{sum-set, sum-replicate}
 use Rattle.lists.proofs.Parts.{getD-repeated}
 use Rattle.lists.proofs.Tests.{test-within}
@@ -50,14 +51,9 @@ module _ {g : Graph} {source : ℕ} (ground : Ground g source) where
 
   -- what is set is the source's label
   alone-only : (y v k : ℕ) → getD (alone y) v none ≡ some k → (v ≡ source) × (k ≡ y)
-  alone-only y v k e = go (eqb v source) refl
-    where
-      go : (b : Bool) → eqb v source ≡ b → (v ≡ source) × (k ≡ y)
-      go true q = let same = eqb-true v source q in let own = alone-own y in (same, cc)
-      go false q =
-          let other = getD-set-other unlabelled source v (some y) none (eqb-false v source q) ∙ getD-repeated (length g) v none in
-          let z : _≡_ {A = ℕ} 0 1 = cc in
-          absurd (omega arith)
+  alone-only y v k e = set-cases unlabelled source v (some y) none (some k) source-there e
+      (λ same r. (same, Option·some-injective k y (sym r)))
+      (λ apart r. absurd (Option·none-ne-some k (sym (getD-repeated (length g) v none) ∙ r)))
 
   -- all but one are unset
   alone-unsets : (y : ℕ) → 1 + unsets (alone y) ≡ length g

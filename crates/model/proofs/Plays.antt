@@ -3,7 +3,7 @@ use mathlib.Core.Path.{_≡_, refl, sym, _∙_, ap}
 use mathlib.Core.Bool.{Bool, true, false, cond, not, _&&_, true≢false}
 use mathlib.Core.List.{List, [], _∷_, _++_, map, foldl, foldl-append}
 use mathlib.Core.Option.{Option, none, some, Option·none-ne-some, Option·some-injective}
-use Prim.Native.Nat.{ℕ, _≤_}
+use Prim.Native.Nat.{ℕ, suc, _+_, _≤_}
 use native.Mathlib.Omega.{arith}
 use lib.ListN.{length, length-set, length-map}
 use Rattle.graph.specs.Graph.{Graph}
@@ -14,7 +14,7 @@ use Rattle.schedule.specs.Events.{eventOf}
 use Rattle.model.specs.Paths.{Labels}
 use Rattle.model.specs.State.{Worker, State, workerAt}
 use Rattle.model.specs.Table.{moved, splitInputs, uniteOutputs, allIdle, united, closed, act, handedIn, withWorkers}
-use Rattle.model.specs.Play.{Run, tally, step, playFrom}
+use Rattle.model.specs.Play.{Run, tally, step, playFrom, metOne}
 use Rattle.model.proofs.Workers.{effective}
 
 -- No event adds or removes a worker.
@@ -70,28 +70,28 @@ tally-crew g r e (some t) h = act-crew g (r .state) t e h
 -- a byte after the finishing event is not used
 pub step-over : (g : Graph) (r : Run) (byte : ℕ) → r .state .finished ≡ true → step g r byte ≡ r
 unfolding step
-step-over g r byte e = ap (λ (f : Bool). cond f r (tally r (act g (r .state) (eventOf byte)))) e
+step-over g r byte e = rw e
 
 -- any other is
 pub step-on : (g : Graph) (r : Run) (byte : ℕ) → r .state .finished ≡ false → step g r byte ≡ tally r (act g (r .state) (eventOf byte))
 unfolding step
-step-on g r byte e = ap (λ (f : Bool). cond f r (tally r (act g (r .state) (eventOf byte)))) e
+step-on g r byte e = rw e
 
 -- a byte keeps the number of workers
 pub step-crew : (g : Graph) (r : Run) (byte : ℕ) (f : Bool) → r .state .finished ≡ f → length (step g r byte .state .workers) ≡ length (r .state .workers)
 step-crew g r byte true e = ap (λ (q : Run). length (q .state .workers)) (step-over g r byte e)
 step-crew g r byte false e = ap (λ (q : Run). length (q .state .workers)) (step-on g r byte e) ∙ tally-crew g r (eventOf byte) _ refl
 
--- a tally counts what it has counted, or one more
-tally-grows : (r : Run) (o : Option State) → r .effective ≤ tally r o .effective
+-- a tally uses one byte, and counts it where its condition is met
+pub tally-counts : (r : Run) (o : Option State) → (tally r o .used ≡ suc (r .used)) × (tally r o .effective ≡ r .effective + metOne o)
 unfolding tally
-tally-grows r none = omega arith
-tally-grows r (some t) = omega arith
+tally-counts r none = (refl, omega arith)
+tally-counts r (some t) = (refl, omega arith)
 
 -- a byte never lowers the count
 pub step-grows : (g : Graph) (r : Run) (byte : ℕ) (f : Bool) → r .state .finished ≡ f → r .effective ≤ step g r byte .effective
 step-grows g r byte true e = omega (arith, ap (λ (q : Run). q .effective) (step-over g r byte e))
-step-grows g r byte false e = omega (arith, ap (λ (q : Run). q .effective) (step-on g r byte e), tally-grows r (act g (r .state) (eventOf byte)))
+step-grows g r byte false e = omega (arith, ap (λ (q : Run). q .effective) (step-on g r byte e), tally-counts r (act g (r .state) (eventOf byte)))
 
 -- nor do many
 pub play-grows : (g : Graph) (r : Run) (schedule : List ℕ) → r .effective ≤ playFrom g r schedule .effective

@@ -1,7 +1,7 @@
 -- Full rounds: in a search that isn't finished one of the events of a round is effective, so a schedule that doesn't finish has no more rounds
 -- than effective events.
 use mathlib.Core.Path.{_≡_, refl, sym, _∙_, ap}
-use mathlib.Core.Bool.{Bool, true, false, cond, _&&_, true≢false}
+use mathlib.Core.Bool.{Bool, true, false, cond, and-eq-true-iff, true≢false}
 use mathlib.Core.List.{List, [], _∷_, _++_, map}
 use mathlib.Core.Option.{Option, none, some, Option·none-ne-some}
 use Prim.Native.Nat.{ℕ, zero, suc, _+_, _*_, _≤_, _<_}
@@ -21,7 +21,7 @@ use Rattle.model.specs.State.{Phase, free, holding, inHand, marked, name
 use Rattle.model.specs.Table.{move, moved, allIdle, united, closed, act}
 use Rattle.model.specs.Play.{Run, tally, step, playFrom, roundBytes, startsWith, rounds}
 use Rattle.model.proofs.Workers.{effective, Idle, all-idle}
-use Rattle.model.proofs.Plays.{step-on, step-crew, step-grows, play-grows, play-crew, play-unfinished, play-append}
+use Rattle.model.proofs.Plays.{tally-counts, step-on, step-crew, step-grows, play-grows, play-crew, play-unfinished, play-append}
 
 -- One round.
 
@@ -45,7 +45,7 @@ act-stuck s w (some m) h = absurd (Option·none-ne-some _ (sym h))
 -- a close where all are idle is effective
 act-close : (g : Graph) (s : State) → allIdle (s .workers) ≡ true → act g s Close ≡ some (closed s (united (s .workers)))
 unfolding act
-act-close g s e = ap (λ (b : Bool). cond b (some (closed s (united (s .workers)))) none) e
+act-close g s e = rw e
 
 -- a work that isn't effective is that of an idle worker
 work-idle : (g : Graph) (s : State) (w : ℕ) → act g s (Work w) ≡ none → Idle (workerAt (s .workers) w)
@@ -54,15 +54,10 @@ work-idle g s w h =
     let x = workerAt (s .workers) w in
     stuck-idle g (s .layer) (s .labels) (x .input) (x .output) (x .phase) _ refl (act-stuck s w (move g (s .layer) (s .labels) (x .input) (x .output) (x .phase)) h)
 
--- an effective event counts one
-tally-some : (r : Run) (t : State) → tally r (some t) .effective ≡ suc (r .effective)
+-- one whose condition isn't met leaves the state
+tally-none : (r : Run) → tally r none .state ≡ r .state
 unfolding tally
-tally-some r t = refl
-
--- one that isn't leaves state and count
-tally-none : (r : Run) → (tally r none .state ≡ r .state) × (tally r none .effective ≡ r .effective)
-unfolding tally
-tally-none r = (refl, refl)
+tally-none r = refl
 
 -- the bytes of a round from worker j on
 abbrev roundFrom : ℕ → ℕ → List ℕ
@@ -76,7 +71,7 @@ round-grows g P few zero j e r f crew idle =
     let now : act g (r .state) (eventOf 192) ≡ some (closed (r .state) (united (r .state .workers))) =
     rw event-close (act-close g (r .state) (all-idle (r .state .workers) (λ w h. idle w (omega arith)))) in
     let counted : step g r 192 .effective ≡ suc (r .effective) =
-    ap (λ (q : Run). q .effective) (step-on g r 192 f) ∙ ap (λ (o : Option State). tally r o .effective) now ∙ tally-some r (closed (r .state) (united (r .state .workers))) in
+    ap (λ (q : Run). q .effective) (step-on g r 192 f) ∙ ap (λ (o : Option State). tally r o .effective) now ∙ (tally-counts r (some (closed (r .state) (united (r .state .workers)))) .1 ∙ omega arith) in
     omega (arith, counted)
 round-grows g P few (suc k) j e r f crew idle = go (act g (r .state) (Work j)) refl (round-grows g P few k (suc j) (omega arith) (step g r (8 * j)))
   where
@@ -93,11 +88,11 @@ round-grows g P few (suc k) j e r f crew idle = go (act g (r .state) (Work j)) r
 
     go : (o : Option State) → act g (r .state) (Work j) ≡ o → rest (suc j) (step g r (8 * j)) → suc (r .effective) ≤ playFrom g (step g r (8 * j)) (roundFrom (suc j) k) .effective
     go none h others =
-        let same : step g r (8 * j) .state ≡ r .state = ap (λ (q : Run). q .state) (after none h) ∙ tally-none r .0 in
-        let count : step g r (8 * j) .effective ≡ r .effective = ap (λ (q : Run). q .effective) (after none h) ∙ tally-none r .1 in
+        let same : step g r (8 * j) .state ≡ r .state = ap (λ (q : Run). q .state) (after none h) ∙ tally-none r in
+        let count : step g r (8 * j) .effective ≡ r .effective = ap (λ (q : Run). q .effective) (after none h) ∙ (tally-counts r none .1 ∙ omega arith) in
         omega (arith, count, others (rw same f) (rw same crew) (λ w below. rw same (next w below _ refl (work-idle g (r .state) j h))))
     go (some t) h others =
-        omega (arith, ap (λ (q : Run). q .effective) (after (some t) h), tally-some r t, play-grows g (step g r (8 * j)) (roundFrom (suc j) k))
+        omega (arith, ap (λ (q : Run). q .effective) (after (some t) h), tally-counts r (some t), play-grows g (step g r (8 * j)) (roundFrom (suc j) k))
 
 -- a round has bytes
 round-long : (P : ℕ) → 1 ≤ length (roundBytes P)
@@ -117,12 +112,9 @@ starts-split : (front bytes : List ℕ) → startsWith front bytes ≡ true → 
 unfolding startsWith
 starts-split [] bytes h = refl
 starts-split (x ∷ front) [] h = absurd (true≢false (sym h))
-starts-split (x ∷ front) (y ∷ bytes) h = go (eqb x y) refl h (starts-split front bytes)
-  where
-    go : (b : Bool) → eqb x y ≡ b → b && startsWith front bytes ≡ true → (startsWith front bytes ≡ true → bytes ≡ front ++ drop (length front) bytes)
-        → y ∷ bytes ≡ x ∷ front ++ drop (length front) bytes
-    go true e k rest = rw (eqb-true x y e) (ap (λ (l : List ℕ). y ∷ l) (rest k))
-    go false e k rest = absurd (true≢false (sym k))
+starts-split (x ∷ front) (y ∷ bytes) h =
+    let both = and-eq-true-iff (eqb x y) (startsWith front bytes) .0 h in
+    rw (eqb-true x y (both .0)) (ap (λ (l : List ℕ). y ∷ l) (starts-split front bytes (both .1)))
 
 -- no round starts with a byte that isn't 0
 nonzero-start : (P byte : ℕ) (bytes : List ℕ) → 1 ≤ P → (byte ≡ 0 → ⊥) → startsWith (roundBytes P) (byte ∷ bytes) ≡ false

@@ -1,28 +1,29 @@
 -- The link-by-link run that ends with a given certified result: each layer takes first the links by which the result's parents were named,
 -- and then the others, which find their targets set.
 use mathlib.Core.Path.{_≡_, refl, sym, ap, _∙_, subst}
-use mathlib.Core.Bool.{Bool, true, false, cond, not, _&&_, _||_, true≢false}
+use mathlib.Core.Bool.{Bool, true, false, cond, not, _&&_, _||_, and-eq-true-iff, true≢false}
 use mathlib.Core.List.{List, [], _∷_, _++_, foldl, foldl-append, Memᴰ·map, Memᴰ·of-map}
 use mathlib.Core.List.{List·Memᴰ, List·Memᴰ·head, List·Memᴰ·tail, List·Memᴰ·not-nil, List·Memᴰ·cases-cons, List·Memᴰ·eq-of-singleton}
 use mathlib.Core.Logic.{_⊎_, inl, inr}
-use mathlib.Core.Option.{Option, none, some, Option·none-ne-some, Option·some-injective}
+use mathlib.Core.Option.{Option, none, some, Option·none-ne-some}
 use Prim.Native.Nat.{ℕ, zero, suc, _+_, _-_, _≤_, _<_}
 use native.Mathlib.Nat.{zero-add, suc-add}
 use native.Mathlib.Decide.{ℕ-discrete}
 use native.Mathlib.Omega.{arith}
-use lib.ListN.{length, getD, replicate, length-set, length-replicate}
+use lib.ListN.{length, getD, length-set}
 use lib.Seq.{getD-set-same, getD-set-other, ext-getD}
 use borrow.Author.Tests.{eqb-true, eq-eqb}
 use Rattle.lists.specs.Lists.{numbersFrom}
 use Rattle.lists.proofs.Or.{or-none}
 use Rattle.lists.proofs.Members.{keep, keep-order, kept, keeps, in-rows, row-of, range-in, in-range}
-use Rattle.lists.proofs.Parts.{place-below, getD-repeated}
+use Rattle.lists.proofs.Parts.{place-below}
 use Rattle.graph.specs.Graph.{Graph, edges}
-use Rattle.model.specs.Paths.{edgeTarget, Joins, Labels, distanceOf, parentOf, isSet, Certified}
+use Rattle.model.specs.Paths.{edgeTarget, Labels, distanceOf, parentOf, isSet, Certified}
 use Rattle.model.specs.State.{openingLabels}
 use Rattle.model.specs.Table.{mark, name}
+use Rattle.model.proofs.Certificate.{vertex-below, parent-before, not-zero}
+use Rattle.model.proofs.Alone.{alone-all, alone-own, alone-other}
 use Rattle.model.specs.Serial.{Link, linksFrom, isAt, layerLinks, follow, anyAt, Serial, ended, layer}
-use Rattle.model.proofs.Sound.{Ground}
 
 -- a label that passes the test for d is set to d
 at-is : (d : ℕ) (o : Option ℕ) → isAt d o ≡ true → o ≡ some d
@@ -135,11 +136,9 @@ module _ (g : Graph) (x : Labels) (d : ℕ) where
   -- what the test tells
   tree-is : (e : Link) → isTree e ≡ true → Tree e
   unfolding isTree
-  tree-is e h = go (isAt (suc d) (distanceOf x (end e))) refl h
-    where
-      go : (b : Bool) → isAt (suc d) (distanceOf x (end e)) ≡ b → (b && isAt (e .start) (parentOf x (end e))) ≡ true → Tree e
-      go true q r = record { far = at-is (suc d) (distanceOf x (end e)) q; named = at-is (e .start) (parentOf x (end e)) r }
-      go false q r = absurd (true≢false (sym r))
+  tree-is e h =
+      let both = and-eq-true-iff (isAt (suc d) (distanceOf x (end e))) (isAt (e .start) (parentOf x (end e))) .0 h in
+      record { far = at-is (suc d) (distanceOf x (end e)) (both .0); named = at-is (e .start) (parentOf x (end e)) (both .1) }
 
   -- and the other way
   is-tree : {e : Link} → Tree e → isTree e ≡ true
@@ -222,61 +221,32 @@ module _ (g : Graph) (x : Labels) (d : ℕ) where
   follow-rest y (e ∷ links) h = rw (h e (List·Memᴰ·head refl)) (follow-rest y links (λ f m. h f (List·Memᴰ·tail m)))
 
 module _ {g : Graph} {source : ℕ} {x : Labels} (c : Certified g source x) where
-  -- a vertex that has a distance is one of the graph's
-  vertex-below : (v k : ℕ) → distanceOf x v ≡ some k → v < length g
-  vertex-below v k e = rw (c .distances-all) at (place-below (x .distances) v e)
-
-  -- a parent of distance d and a link from it
-  record Preceded (v d : ℕ) : Type 0 where
-    parent : ℕ
-    named : parentOf x v ≡ some parent
-    near : distanceOf x parent ≡ some d
-    link : Joins g parent v
-
-  -- a vertex of distance d + 1 has such a parent
-  parent-before : (v d : ℕ) → distanceOf x v ≡ some (suc d) → Preceded v d
-  parent-before v d e =
-      let other : v ≡ source → ⊥ = λ q. let zeroth : 0 ≡ suc d = Option·some-injective 0 (suc d) (sym (c .source) ∙ rw q at e) in omega arith in
-      let r = c .parent v (vertex-below v (suc d) e) other (rw e) in
-      let same : suc (r .2 .depth) ≡ suc d = Option·some-injective (suc (r .2 .depth)) (suc d) (sym (r .2 .there) ∙ e) in
-      let depth : r .2 .depth ≡ d = omega arith in
-      record { parent = r .0; named = r .1; near = rw depth at (r .2 .here); link = r .2 .link }
-
-  -- a vertex other than the source has no distance 0
-  not-zero : (v : ℕ) → (v ≡ source → ⊥) → (k : ℕ) → distanceOf x v ≡ some k → 0 < k
-  not-zero v other k e =
-      let r = c .parent v (vertex-below v k e) other (rw e) in
-      omega (arith, Option·some-injective k (suc (r .2 .depth)) (sym e ∙ r .2 .there))
-
   -- beyond a distance that no vertex has there is none
   none-beyond : (d : ℕ) → ((v : ℕ) → distanceOf x v ≡ some d → ⊥) → (j v : ℕ) → distanceOf x v ≡ some (j + d) → ⊥
   none-beyond d h zero v e = h v (rw (zero-add d) at e)
-  none-beyond d h (suc j) v e = let a = parent-before v (j + d) (rw (suc-add j d) at e) in none-beyond d h j (a .parent) (a .near)
+  none-beyond d h (suc j) v e = let a = parent-before c v (j + d) (rw (suc-add j d) at e) in none-beyond d h j (a .parent) (a .near)
 
   -- the opening labels are on the way
   opening-partly : Partly x 0 (openingLabels (length g) source)
   unfolding openingLabels
   opening-partly = record {
-    distances-all = length-set (replicate n none) source (some 0) ∙ length-replicate n none ∙ sym (c .distances-all);
-    parents-all = length-set (replicate n none) source (some source) ∙ length-replicate n none ∙ sym (c .parents-all);
+    distances-all = alone-all n source 0 ∙ sym (c .distances-all);
+    parents-all = alone-all n source source ∙ sym (c .parents-all);
     each = λ v. go v (ℕ-discrete v source);
   }
     where
       n : ℕ
       n = length g
 
-      inside : source < length (replicate {A = Option ℕ} n none)
-      inside = rw (length-replicate {A = Option ℕ} n none) (vertex-below source 0 (c .source))
-
       y : Labels
       y = openingLabels n source
 
+      inside : source < n
+      inside = vertex-below c source 0 (c .source)
+
       go : (v : ℕ) → Dec (v ≡ source) → Stands x 0 v (distanceOf y v) (parentOf y v)
-      go v (yes q) = rw q (final 0 (c .source) (getD-set-same (replicate n none) source (some 0) none inside)
-          (getD-set-same (replicate n none) source (some source) none inside ∙ sym (c .own-parent)))
-      go v (no q) = blank (not-zero v q)
-          (getD-set-other (replicate n none) source v (some 0) none q ∙ getD-repeated n v none)
-          (getD-set-other (replicate n none) source v (some source) none q ∙ getD-repeated n v none)
+      go v (yes q) = rw q (final 0 (c .source) (alone-own n source 0 inside) (alone-own n source source inside ∙ sym (c .own-parent)))
+      go v (no q) = blank (not-zero c v q) (alone-other n source 0 v q) (alone-other n source source v q)
 
   -- labels on the way from distance d on, in which no vertex has distance d, are x
   whole : (d : ℕ) (y : Labels) → Partly x d y → anyAt d (y .distances) ≡ false → y ≡ x
@@ -336,11 +306,11 @@ module _ {g : Graph} {source : ℕ} {x : Labels} (c : Certified g source x) wher
         where
           go : Dec (k ≡ suc d) → distanceOf z v ≡ some k
           go (yes q) =
-              let a = parent-before v d (rw q at e) in
+              let a = parent-before c v d (rw q at e) in
               let f : Link = record { start = a .parent; place = a .link .place } in
               let by-it : Tree g x d f = record { far = rw (a .link .leads, ← q) e; named = rw (a .link .leads) (a .named) } in
               let starts : InLayer g d y f = record { from = near-set p (a .parent) d (a .near) (omega arith); there = a .link .there } in
-              let among : List·Memᴰ f links = layer-has g d y f (vertex-below (a .parent) d (a .near)) starts in
+              let among : List·Memᴰ f links = layer-has g d y f (vertex-below c (a .parent) d (a .near)) starts in
               rw (a .link .leads, ← q) at (done .reached f (keeps (isTree g x d) among (is-tree g x d by-it)))
           go (no q) = near-set (done .partly) v k e (omega arith)
 
@@ -348,7 +318,7 @@ module _ {g : Graph} {source : ℕ} {x : Labels} (c : Certified g source x) wher
       rest-set e m =
           let l = layer-only g d y e (kept (λ (f : Link). not (isTree g x d f)) links m .0) in
           let here : distanceOf x (e .start) ≡ some d = set-final p (e .start) d (l .from) in
-          let r = c .onward (e .start) d (e .place) (vertex-below (e .start) d here) here (l .there) in
+          let r = c .onward (e .start) d (e .place) (vertex-below c (e .start) d here) here (l .there) in
           rw (next-set (edgeTarget g (e .start) (e .place)) (r .0) (r .1) (r .2)) refl
 
   -- the run from distance d on
@@ -370,7 +340,7 @@ module _ {g : Graph} {source : ℕ} {x : Labels} (c : Certified g source x) wher
       go true q rest = layer q (orderOf d y) (keep-order (isTree g x d) (layerLinks g d y)) rest
       go false q rest = stop d y p q
 
-module _ {g : Graph} {source : ℕ} (ground : Ground g source) where
+module _ {g : Graph} {source : ℕ} where
   -- a certified result is the end of some link-by-link run
   pub serial-run : {x : Labels} → Certified g source x → ((v d : ℕ) → distanceOf x v ≡ some d → d < length g)
       → Serial g 0 (openingLabels (length g) source) x

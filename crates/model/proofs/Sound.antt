@@ -97,8 +97,8 @@ module _ (g : Graph) (source : ℕ) where
     pub keeps : (v k : ℕ) → distanceOf a v ≡ some k → distanceOf b v ≡ some k
     pub inputs-fall : (v : ℕ) → copies v (y .input) ≤ copies v (x .input)
     pub outputs-set : (v : ℕ) → 1 ≤ copies v (y .output) → (1 ≤ copies v (x .output)) ⊎ (distanceOf b v ≡ some (suc d))
-    pub edges-kept : (u i : ℕ) → Distance g source u d → i < length (edges g u) → 1 ≤ copies u (x .input) + atOf u i (x .phase)
-        → 1 ≤ copies u (y .input) + atOf u i (y .phase) + setOne (distanceOf b (edgeTarget g u i))
+    pub edges-kept : (u i : ℕ) → i < length (edges g u)
+        → copies u (x .input) + atOf u i (x .phase) ≤ copies u (y .input) + atOf u i (y .phase) + setOne (distanceOf b (edgeTarget g u i))
     pub copies-kept : (v : ℕ) → copies v (x .output) + handOf v (x .phase) ≤ copies v (y .output) + handOf v (y .phase)
     -- a vertex that becomes set is in this worker's hand
     pub newly-set : (v : ℕ) → distanceOf a v ≡ none → isSet (distanceOf b v) ≡ true → (1 ≤ handOf v (y .phase)) × (1 ≤ namingOf v (y .phase))

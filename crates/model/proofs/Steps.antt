@@ -1,49 +1,33 @@
 -- One event, and one byte: what they keep. Every event's part (a move, a split, a union, a close) is proved in its own file; here they are joined.
 use mathlib.Core.Path.{_≡_, refl, sym, _∙_, ap}
-use mathlib.Core.Bool.{Bool, true, false, cond, not, _&&_, and-eq-true-iff, true≢false}
-use mathlib.Core.List.{List, map}
+use mathlib.Core.Bool.{Bool, true, false, not, _&&_, and-eq-true-iff, true≢false}
+use mathlib.Core.List.{List}
 use mathlib.Core.Option.{Option, none, some, Option·none-ne-some, Option·some-injective}
 use Prim.Native.Nat.{ℕ, suc, _+_, _≤_, _<_}
 use native.Mathlib.Omega.{arith}
 use lib.ListN.{set}
 use Rattle.lists.proofs.Sums.{sum-at}
 use Rattle.graph.specs.Graph.{Graph}
-use Rattle.pennant.specs.Bag.{Bag, emptyBag, isEmpty, atLeastTwo}
+use Rattle.pennant.specs.Bag.{Bag, isEmpty, atLeastTwo}
 use Rattle.pennant.specs.Held.{only, copies}
 use Rattle.pennant.proofs.Laws.{weigh-empty}
 use Rattle.schedule.specs.declared.Event.{Event}
 use Rattle.schedule.specs.declared.Event.the-variants.{Work, Split, Unite, Close, Malformed}
 use Rattle.schedule.specs.Events.{eventOf, within}
-use Rattle.schedule.proofs.Bytes.{within-work, within-split, within-unite, split-apart, unite-apart}
+use Rattle.schedule.proofs.Bytes.{Staffed, byte-staffed}
 use Rattle.model.specs.Paths.{Distance, Labels, Certified}
-use Rattle.model.specs.State.{free, Worker, workerWith, idleWorker, State, workerAt}
-use Rattle.model.specs.Table.{move, moved, withWorkers, handedIn, splitInputs, uniteOutputs, allIdle, united, closed, act}
+use Rattle.model.specs.State.{Worker, idleWorker, State, workerAt}
+use Rattle.model.specs.Table.{move, moved, withWorkers, splitInputs, uniteOutputs, allIdle, united, closed, act}
 use Rattle.model.specs.Play.{Run, tally, step, eventBound}
 use Rattle.model.specs.Demand.{LayerOpen}
 use Rattle.model.proofs.Sound.{Ground, CrewSound, Sound}
 use Rattle.model.proofs.Workers.{effective}
 use Rattle.model.proofs.Cost.{cost}
 use Rattle.model.proofs.Plays.{step-over, step-on}
-use Rattle.model.proofs.Moving.{move-sound, move-moves}
+use Rattle.model.proofs.Moving.{move-after}
 use Rattle.model.proofs.Crew.{crew-moves, crew-split, crew-unite}
 use Rattle.model.proofs.Closing.{close-sound, close-opens, close-certified}
 use Rattle.model.proofs.Costs.{work-cost, split-cost, unite-cost, close-cost}
-
--- the workers of an event are there, and two of them are two
-abbrev pub Fits : ℕ → Event → Type 0
-Fits P (Work w) = w < P
-Fits P (Split w v) = (w < P) × (v < P) × (w ≡ v → ⊥)
-Fits P (Unite w v) = (w < P) × (v < P) × (w ≡ v → ⊥)
-Fits P Close = Unit {0}
-Fits P Malformed = Unit {0}
-
--- so it is for every well-formed byte
-pub byte-fits : (P byte : ℕ) (e : Event) → eventOf byte ≡ e → within P e ≡ true → Fits P e
-byte-fits P byte (Work w) e h = within-work P w h
-byte-fits P byte (Split w v) e h = (within-split P w v h .0, within-split P w v h .1, split-apart byte w v e)
-byte-fits P byte (Unite w v) e h = (within-unite P w v h .0, within-unite P w v h .1, unite-apart byte w v e)
-byte-fits P byte Close e h = tt
-byte-fits P byte Malformed e h = tt
 
 -- what an effective event leaves: a sound state, an open layer if d was raised, a certified result if the search is finished, and less to pay
 pub record After (g : Graph) (source P : ℕ) (s t : State) : Type 0 where
@@ -82,10 +66,10 @@ module _ {g : Graph} {source : ℕ} (ground : Ground g source) {P : ℕ} where
       let after : State = record { labels = m .1; workers = set (s .workers) w (m .0); layer = s .layer; finished = s .finished } in
       let same : after ≡ t = Option·some-injective after t k in
       let near = input-within (s .workers) (h .crew-sound) w in
-      let one = h .crew-sound .each w in
+      let moves = move-after ground (h .labels-sound) (h .crew-sound .each w) near e in
       let sound : Sound g source P after = record {
-        labels-sound = move-sound ground (h .labels-sound) one near e;
-        crew-sound = crew-moves ground (s .workers) w (m .0) (h .crew-sound) below (move-moves ground (h .labels-sound) one near e);
+        labels-sound = moves .0;
+        crew-sound = crew-moves (s .workers) w (m .0) (h .crew-sound) below (moves .1);
       } in
       let kept : Kept g source P s after = record { sound = sound; same-layer = refl; same-end = refl } in
       rw (← same) kept
@@ -100,35 +84,44 @@ module _ {g : Graph} {source : ℕ} (ground : Ground g source) {P : ℕ} where
   work-kept s t w h below k = moved-kept s t w h below _ refl k
 
   -- a split
-  split-kept : (s t : State) (w v : ℕ) → Sound g source P s → Fits P (Split w v) → act g s (Split w v) ≡ some t → Kept g source P s t
+  split-kept : (s t : State) (w v : ℕ) → Sound g source P s → Staffed P (Split w v) → act g s (Split w v) ≡ some t → Kept g source P s t
   unfolding act
   split-kept s t w v h fits k =
       let x = workerAt (s .workers) w .input in
       let y = workerAt (s .workers) v .input in
       let met = effective (isEmpty x && atLeastTwo y) (withWorkers s (splitInputs (s .workers) w v)) t k in
       let both = and-eq-true-iff (isEmpty x) (atLeastTwo y) .0 (met .0) in
-      rw (← met .1) (workers-kept s (splitInputs (s .workers) w v) h (crew-split ground (s .workers) w v (h .crew-sound) (fits .0) (fits .1) (fits .2) (both .0)))
+      rw (← met .1) (workers-kept s (splitInputs (s .workers) w v) h (crew-split (s .workers) w v (h .crew-sound) (fits .0) (fits .1) (fits .2) (both .0)))
 
   -- a union
-  unite-kept : (s t : State) (w v : ℕ) → Sound g source P s → Fits P (Unite w v) → act g s (Unite w v) ≡ some t → Kept g source P s t
+  unite-kept : (s t : State) (w v : ℕ) → Sound g source P s → Staffed P (Unite w v) → act g s (Unite w v) ≡ some t → Kept g source P s t
   unfolding act
   unite-kept s t w v h fits k =
       let x = workerAt (s .workers) w .output in
       let y = workerAt (s .workers) v .output in
       let met = effective (not (isEmpty x) && not (isEmpty y)) (withWorkers s (uniteOutputs (s .workers) w v)) t k in
-      rw (← met .1) (workers-kept s (uniteOutputs (s .workers) w v) h (crew-unite ground (s .workers) w v (h .crew-sound) (fits .0) (fits .1) (fits .2)))
+      rw (← met .1) (workers-kept s (uniteOutputs (s .workers) w v) h (crew-unite (s .workers) w v (h .crew-sound) (fits .0) (fits .1) (fits .2)))
 
 -- a close of an empty united bag: the search is finished, and all else stays
 closed-empty : (s : State) (bag : Bag) → isEmpty bag ≡ true → closed s bag ≡ record { labels = s .labels; workers = s .workers; layer = s .layer; finished = true }
 unfolding closed
-closed-empty s bag e = ap (λ (b : Bool). cond b
-    (record { labels = s .labels; workers = s .workers; layer = s .layer; finished = true })
-    (record { labels = s .labels; workers = set (map handedIn (s .workers)) 0 (workerWith bag emptyBag free); layer = suc (s .layer); finished = false })) e
+closed-empty s bag e = rw e
 
 -- a close of any other: the search isn't finished
 closed-filled : (s : State) (bag : Bag) → isEmpty bag ≡ false → closed s bag .finished ≡ false
 unfolding closed
 closed-filled s bag e = rw e
+
+-- a run so far: a sound state, what was paid and what is still to pay, and a certified result once it is finished
+pub record Good (g : Graph) (source P : ℕ) (r : Run) : Type 0 where
+  pub sound : Sound g source P (r .state)
+  pub paid : r .effective + cost P g (r .state) ≤ eventBound g P
+  pub ended : r .state .finished ≡ true → Certified g source (r .state .labels)
+
+-- a byte: the run stays good, and a layer that opens is opened
+pub record Next (g : Graph) (source P : ℕ) (r q : Run) : Type 0 where
+  pub good : Good g source P q
+  pub opens : (q .state .layer ≡ r .state .layer → ⊥) → LayerOpen g source P (q .state)
 
 module _ {g : Graph} {source : ℕ} (ground : Ground g source) {P : ℕ} (some-worker : 1 ≤ P) where
   -- an effective close
@@ -142,18 +135,18 @@ module _ {g : Graph} {source : ℕ} (ground : Ground g source) {P : ℕ} (some-w
       record {
         sound = rw same sound;
         opens = λ other. absurd (other (ap (λ (t : State). t .layer) same));
-        ended = λ f. rw same (close-certified ground h idle e);
+        ended = λ f. rw same (close-certified h idle e);
         cheaper = less;
       }
   closed-after s h idle less false e = record {
-    sound = close-sound ground some-worker h idle e;
-    opens = λ other. close-opens ground some-worker h idle e;
+    sound = close-sound some-worker h idle e;
+    opens = λ other. close-opens some-worker h idle e;
     ended = λ f. absurd (true≢false (sym f ∙ closed-filled s (united (s .workers)) e));
     cheaper = less;
   }
 
   -- an effective event
-  pub act-after : (s t : State) (e : Event) → Sound g source P s → s .finished ≡ false → Fits P e → act g s e ≡ some t → After g source P s t
+  pub act-after : (s t : State) (e : Event) → Sound g source P s → s .finished ≡ false → Staffed P e → act g s e ≡ some t → After g source P s t
   unfolding act
   act-after s t (Work w) h live below k = kept-after (work-kept ground s t w h below k) live (work-cost ground w h below k)
   act-after s t (Split w v) h live fits k = kept-after (split-kept ground s t w v h fits k) live (split-cost ground w v h (fits .0) (fits .1) (fits .2) k)
@@ -163,21 +156,10 @@ module _ {g : Graph} {source : ℕ} (ground : Ground g source) {P : ℕ} (some-w
       rw (← met .1) (closed-after s h (met .0) (rw (met .1) (close-cost ground some-worker h live k)) _ refl)
   act-after s t Malformed h live fits k = absurd (Option·none-ne-some t k)
 
-  -- a run so far: a sound state, what was paid and what is still to pay, and a certified result once it is finished
-  pub record Good (r : Run) : Type 0 where
-    pub sound : Sound g source P (r .state)
-    pub paid : r .effective + cost P g (r .state) ≤ eventBound g P
-    pub ended : r .state .finished ≡ true → Certified g source (r .state .labels)
-
-  -- a byte: the run stays good, and a layer that opens is opened
-  pub record Next (r q : Run) : Type 0 where
-    pub good : Good q
-    pub opens : (q .state .layer ≡ r .state .layer → ⊥) → LayerOpen g source P (q .state)
-
   -- a run that stays where it is, but for the bytes used
-  next-same : (r q : Run) → Good r → q .state ≡ r .state → q .effective ≡ r .effective → Next r q
+  next-same : (r q : Run) → Good g source P r → q .state ≡ r .state → q .effective ≡ r .effective → Next g source P r q
   next-same r q h same count =
-      let good : Good q = record {
+      let good : Good g source P q = record {
         sound = rw same (h .sound);
         paid = omega (arith, h .paid, count, ap (cost P g) same);
         ended = λ f. rw same (h .ended (sym (ap (λ (s : State). s .finished) same) ∙ f));
@@ -185,15 +167,15 @@ module _ {g : Graph} {source : ℕ} (ground : Ground g source) {P : ℕ} (some-w
       record { good = good; opens = λ other. absurd (other (ap (λ (s : State). s .layer) same)) }
 
   -- a byte whose event is met or not
-  tally-next : (r : Run) (e : Event) → Good r → r .state .finished ≡ false → Fits P e → (o : Option State) → act g (r .state) e ≡ o → Next r (tally r o)
+  tally-next : (r : Run) (e : Event) → Good g source P r → r .state .finished ≡ false → Staffed P e → (o : Option State) → act g (r .state) e ≡ o → Next g source P r (tally r o)
   unfolding tally
   tally-next r e h live fits none k = next-same r (tally r none) h refl refl
   tally-next r e h live fits (some t) k =
       let after = act-after (r .state) t e (h .sound) live fits k in
-      let good : Good (tally r (some t)) = record { sound = after .sound; paid = omega (arith, h .paid, after .cheaper); ended = after .ended } in
+      let good : Good g source P (tally r (some t)) = record { sound = after .sound; paid = omega (arith, h .paid, after .cheaper); ended = after .ended } in
       record { good = good; opens = after .opens }
 
   -- a byte
-  pub step-next : (r : Run) (byte : ℕ) → Good r → within P (eventOf byte) ≡ true → (f : Bool) → r .state .finished ≡ f → Next r (step g r byte)
+  pub step-next : (r : Run) (byte : ℕ) → Good g source P r → within P (eventOf byte) ≡ true → (f : Bool) → r .state .finished ≡ f → Next g source P r (step g r byte)
   step-next r byte h w true f = rw (step-over g r byte f) (next-same r r h refl refl)
-  step-next r byte h w false f = rw (step-on g r byte f) (tally-next r (eventOf byte) h f (byte-fits P byte (eventOf byte) refl w) _ refl)
+  step-next r byte h w false f = rw (step-on g r byte f) (tally-next r (eventOf byte) h f (byte-staffed P byte (eventOf byte) refl w) _ refl)

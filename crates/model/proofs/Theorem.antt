@@ -38,19 +38,19 @@ stray-at P (suc k) (byte ∷ schedule) h below = stray-at P k schedule (stray-no
 
 module _ {g : Graph} {source : ℕ} (ground : Ground g source) {P : ℕ} (some-worker : 1 ≤ P) where
   -- a good run stays good
-  play-good : (r : Run) (schedule : List ℕ) → anyStray P schedule ≡ false → Good ground some-worker r → Good ground some-worker (playFrom g r schedule)
+  play-good : (r : Run) (schedule : List ℕ) → anyStray P schedule ≡ false → Good g source P r → Good g source P (playFrom g r schedule)
   unfolding playFrom
   play-good r [] h good = good
   play-good r (byte ∷ schedule) h good =
       play-good (step g r byte) schedule (stray-none P byte schedule h .1) (step-next ground some-worker r byte good (stray-none P byte schedule h .0) _ refl .good)
 
   -- the opening is good
-  opening-good : Good ground some-worker (record { state = openingState (length g) source P; used = 0; effective = 0 })
+  opening-good : Good g source P (record { state = openingState (length g) source P; used = 0; effective = 0 })
   unfolding openingState
   opening-good = record { sound = opening-sound ground P some-worker; paid = omega (arith, opening-cost ground P some-worker); ended = λ f. absurd (true≢false (sym f)) }
 
   -- so is every run from there
-  pub run-good : (schedule : List ℕ) → anyStray P schedule ≡ false → Good ground some-worker (play g source P schedule)
+  pub run-good : (schedule : List ℕ) → anyStray P schedule ≡ false → Good g source P (play g source P schedule)
   unfolding play
   run-good schedule h = play-good _ schedule h opening-good
 
@@ -70,11 +70,11 @@ state-start g source P schedule = refl
 
 module _ {g : Graph} {source P : ℕ} {schedule : List ℕ} (a : Accepted g source P schedule) where
   -- the run after k bytes is good
-  good-at : (k : ℕ) → Good (accepted-ground a) (a .some-worker) (play g source P (take k schedule))
+  good-at : (k : ℕ) → Good g source P (play g source P (take k schedule))
   good-at k = run-good (accepted-ground a) (a .some-worker) (take k schedule) (stray-take P k schedule (a .formed))
 
   -- and so is the whole run
-  good-run : Good (accepted-ground a) (a .some-worker) (play g source P schedule)
+  good-run : Good g source P (play g source P schedule)
   good-run = run-good (accepted-ground a) (a .some-worker) schedule (a .formed)
 
   -- a close that raises d opens a layer
@@ -114,7 +114,7 @@ module _ {g : Graph} {source P : ℕ} {schedule : List ℕ} (a : Accepted g sour
     below = not-finished;
     enough-rounds = λ h. finishes _ refl h;
     right-result = λ f. certified-right (accepted-ground a) (good-run .ended f);
-    link-by-link = λ f. serial-run (accepted-ground a) (good-run .ended f) (sound-fits (accepted-ground a) (a .few-workers) (good-run .sound) .distances-below);
+    link-by-link = λ f. serial-run (good-run .ended f) (sound-fits (accepted-ground a) (a .few-workers) (good-run .sound) .distances-below);
     counted = told-all g source P schedule .counted;
     used-spent = told-all g source P schedule .spent;
     used-finished = λ f. let last = told-all g source P schedule .ended f in (last .place, last .used, last .before, last .after);

@@ -2,7 +2,6 @@
 use mathlib.Core.Path.{_≡_, refl, sym, _∙_, ap, subst}
 use mathlib.Core.Bool.{Bool, true, false, true≢false}
 use mathlib.Core.List.{List, [], _∷_}
-use mathlib.Core.Option.{Option, none, some}
 use Prim.Native.Nat.{ℕ, zero, suc, _+_, _≤_, _<_}
 use native.Mathlib.Nat.{zero-add}
 use native.Mathlib.Omega.{arith}
@@ -12,10 +11,10 @@ use Rattle.lists.specs.Lists.{numbersFrom, sumOf}
 use Rattle.lists.proofs.Sums.{sum-last}
 use Rattle.graph.specs.Graph.{Graph}
 use Rattle.schedule.specs.Events.{eventOf}
-use Rattle.model.specs.State.{State, openingState}
+use Rattle.model.specs.State.{openingState}
 use Rattle.model.specs.Table.{act}
-use Rattle.model.specs.Play.{Run, tally, step, playFrom, play, stateAt, metOne, metAt}
-use Rattle.model.proofs.Plays.{step-over, step-on, play-append}
+use Rattle.model.specs.Play.{Run, tally, step, playFrom, play, stateAt, metAt}
+use Rattle.model.proofs.Plays.{tally-counts, step-over, step-on, play-append}
 
 module _ (g : Graph) (source P : ℕ) (schedule : List ℕ) where
   -- one more byte is one more step
@@ -40,12 +39,6 @@ module _ (g : Graph) (source P : ℕ) (schedule : List ℕ) where
   told-start : Told 0 (play g source P [])
   unfolding play playFrom openingState numbersFrom sumOf
   told-start = record { counted = refl; spent = λ f. refl; ended = λ f. absurd (true≢false (sym f)) }
-
-  -- a byte's tally
-  tally-counts : (r : Run) (o : Option State) → (tally r o .used ≡ suc (r .used)) × (tally r o .effective ≡ r .effective + metOne o)
-  unfolding tally
-  tally-counts r none = (refl, omega arith)
-  tally-counts r (some s) = (refl, omega arith)
 
   -- a byte more
   told-more : (k : ℕ) → k < length schedule → (f : Bool) → play g source P (take k schedule) .state .finished ≡ f

@@ -56,7 +56,7 @@ form-apart : (kind w v : ℕ) → Apart (formOf kind w v)
 unfolding formOf Apart
 form-apart kind w v =
     picked (eqb kind 0) _ _ (picked (eqb v 0) _ _ tt tt)
-    (picked (eqb kind 3) _ _ (picked (eqb (w + v) 0) _ _ tt tt) (unlike (eqb w v) refl))
+    (picked (eqb kind 3) _ _ (picked (eqb w 0 && eqb v 0) _ _ tt tt) (unlike (eqb w v) refl))
   where
     unlike : (same : Bool) → eqb w v ≡ same → Apart (cond same Malformed (cond (eqb kind 1) (Split w v) (Unite w v)))
     unlike true e = tt
@@ -66,16 +66,6 @@ form-apart kind w v =
 event-apart : (byte : ℕ) → Apart (eventOf byte)
 unfolding eventOf
 event-apart byte = form-apart (byte / 64) (byte / 8 % 8) (byte % 8)
-
--- no worker takes from itself
-pub split-apart : (byte w v : ℕ) → eventOf byte ≡ Split w v → w ≡ v → ⊥
-unfolding Apart
-split-apart byte w v e = subst Apart e (event-apart byte)
-
--- no worker gives to itself
-pub unite-apart : (byte w v : ℕ) → eventOf byte ≡ Unite w v → w ≡ v → ⊥
-unfolding Apart
-unite-apart byte w v e = subst Apart e (event-apart byte)
 
 -- Bytes that are not stray.
 
@@ -91,17 +81,19 @@ stray-none P byte bytes e =
 both-there : (P w v : ℕ) → (ltb w P && ltb v P) ≡ true → (w < P) × (v < P)
 both-there P w v e = let there = and-eq-true-iff (ltb w P) (ltb v P) .0 e in (ltb-true w P (there .0), ltb-true v P (there .1))
 
--- the worker that moves is there
-pub within-work : (P w : ℕ) → within P (Work w) ≡ true → w < P
-unfolding within
-within-work P w e = ltb-true w P e
+-- the workers of an event are there, and two of them are two
+abbrev pub Staffed : ℕ → Event → Type 0
+Staffed P (Work w) = w < P
+Staffed P (Split w v) = (w < P) × (v < P) × (w ≡ v → ⊥)
+Staffed P (Unite w v) = (w < P) × (v < P) × (w ≡ v → ⊥)
+Staffed P Close = Unit {0}
+Staffed P Malformed = Unit {0}
 
--- the taker and the giver of a split are there
-pub within-split : (P w v : ℕ) → within P (Split w v) ≡ true → (w < P) × (v < P)
-unfolding within
-within-split P w v e = both-there P w v e
-
--- the giver and the taker of a union are there
-pub within-unite : (P w v : ℕ) → within P (Unite w v) ≡ true → (w < P) × (v < P)
-unfolding within
-within-unite P w v e = both-there P w v e
+-- so it is for every well-formed byte
+pub byte-staffed : (P byte : ℕ) (e : Event) → eventOf byte ≡ e → within P e ≡ true → Staffed P e
+unfolding within Apart
+byte-staffed P byte (Work w) e h = ltb-true w P h
+byte-staffed P byte (Split w v) e h = let b = both-there P w v h in (b .0, b .1, subst Apart e (event-apart byte))
+byte-staffed P byte (Unite w v) e h = let b = both-there P w v h in (b .0, b .1, subst Apart e (event-apart byte))
+byte-staffed P byte Close e h = tt
+byte-staffed P byte Malformed e h = tt

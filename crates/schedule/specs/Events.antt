@@ -1,5 +1,5 @@
 -- Events, and the byte of each: "An event byte is 64 × kind + 8 × w + v."
-use Prim.Native.Nat.{ℕ, _+_, _/_, _%_}
+use Prim.Native.Nat.{ℕ, _/_, _%_}
 use mathlib.Core.Bool.{Bool, true, false, cond, _&&_}
 use lib.Dec.{eqb, ltb}
 use Rattle.schedule.specs.declared.Event.{Event}
@@ -10,7 +10,7 @@ use Rattle.schedule.specs.declared.Event.the-variants.{Work, Split, Unit
 unfoldable pub formOf : ℕ → ℕ → ℕ → Event
 formOf kind w v =
     cond (eqb kind 0) (cond (eqb v 0) (Work w) Malformed)
-    (cond (eqb kind 3) (cond (eqb (w + v) 0) Close Malformed)
+    (cond (eqb kind 3) (cond (eqb w 0 && eqb v 0) Close Malformed)
     (cond (eqb w v) Malformed
     (cond (eqb kind 1) (Split w v) (Unite w v))))
 

@@ -1,11 +1,10 @@
 -- `schedule::form` meets its contract: each way out rewrites the event's tests with those that led there.
-use mathlib.Core.Bool.{cond}
+use mathlib.Core.Bool.{false, cond, _&&_}
 use mathlib.Core.Logic.{⊎-elim}
 use mathlib.Core.Path.{_≡_, sym, _∙_}
-use Prim.Native.Nat.{ℕ, _+_}
-use native.Mathlib.Omega.{arith}
+use Prim.Native.Nat.{ℕ}
 use lib.Dec.{eqb}
-use borrow.Author.Tests.{eq-eqb, ne-eqb, eqb-true, eqb-false}
+use borrow.Author.Tests.{eq-eqb, ne-eqb}
 use Rattle.schedule.specs.declared.Event.the-variants.{Work, Split, Unite, Close, Malformed}
 use Rattle.schedule.specs.Events.{formOf}
 use Rattle.schedule.proofs.form.Statement.{statement}
@@ -18,7 +17,7 @@ module _ (kind w v : ℕ) where
   moving e = rw (eq-eqb kind 0 e)
 
   -- of kind 3
-  closing : (kind ≡ 0 → ⊥) → kind ≡ 3 → formOf kind w v ≡ cond (eqb (w + v) 0) Close Malformed
+  closing : (kind ≡ 0 → ⊥) → kind ≡ 3 → formOf kind w v ≡ cond (eqb w 0 && eqb v 0) Close Malformed
   unfolding formOf
   closing n e = rw (ne-eqb kind 0 n, eq-eqb kind 3 e)
 
@@ -41,19 +40,17 @@ returns-3 : tie.Need-returns-3
 returns-3 c =
     let close = c .before .before in
     let a = close .before .before .args in
-    let none : a .w + a .v ≡ 0 = omega (arith, eqb-true (a .v) 0 (c .if5 .taken)) in
-    sym (closing (a .kind) (a .w) (a .v) (close .before .if1 .left) (close .if3 .taken) ∙ rw (eq-eqb (a .w + a .v) 0 none))
+    sym (closing (a .kind) (a .w) (a .v) (close .before .if1 .left) (close .if3 .taken) ∙ rw (eq-eqb (a .w) 0 (c .before .if4 .taken), c .if5 .taken))
 
 -- where the test for a close fails, w and v are not both 0
-not-close : (c : tie.Joined4) → c .before .before .before .args .w + c .before .before .before .args .v ≡ 0 → ⊥
-not-close c none =
-    ⊎-elim (λ t. eqb-false (c .before .before .before .args .v) 0 (t .1 .left) (omega arith)) (λ t. t .left (omega arith)) (c .if4 .came)
+not-close : (c : tie.Joined4) → (eqb (c .before .before .before .args .w) 0 && eqb (c .before .before .before .args .v) 0) ≡ false
+not-close c = ⊎-elim (λ t. rw (eq-eqb _ 0 (t .0 .taken), t .1 .left)) (λ t. rw (ne-eqb _ 0 (t .left))) (c .if4 .came)
 
 returns-4 : tie.Need-returns-4
 returns-4 c =
     let close = c .before in
     let a = close .before .before .args in
-    sym (closing (a .kind) (a .w) (a .v) (close .before .if1 .left) (close .if3 .taken) ∙ rw (ne-eqb (a .w + a .v) 0 (not-close c)))
+    sym (closing (a .kind) (a .w) (a .v) (close .before .if1 .left) (close .if3 .taken) ∙ rw (not-close c))
 
 returns-5 : tie.Need-returns-5
 returns-5 c =
