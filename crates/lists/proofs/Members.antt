@@ -89,5 +89,5 @@ pub range-in : {i n : ℕ} → i < n → List·Memᴰ i (numbersFrom 0 n)
 range-in {i} {n} h = elem-in i (numbersFrom 0 n) (range-elem i 0 n (omega arith) (omega arith))
 
 -- and the other way
-pub in-range : {i : ℕ} (n : ℕ) → List·Memᴰ i (numbersFrom 0 n) → i < n
-in-range {i} n m = omega (arith, elem-range i 0 n (in-elem m))
+pub range-below : {i : ℕ} (n : ℕ) → List·Memᴰ i (numbersFrom 0 n) → i < n
+range-below {i} n m = omega (arith, elem-range i 0 n (in-elem m))

@@ -14,7 +14,7 @@ use Rattle.model.proofs.Sound.{Ground}
 use Rattle.model.proofs.Walks.{walk-below, distance-unique}
 
 -- v is set, to no more than k
-record Within (x : Labels) (v k : ℕ) : Type 0 where
+record SetWithin (x : Labels) (v k : ℕ) : Type 0 where
   value : ℕ
   is : distanceOf x v ≡ some value
   most : value ≤ k
@@ -29,7 +29,7 @@ module _ {g : Graph} {source : ℕ} {x : Labels} (c : Certified g source x) wher
     pub parent : ℕ
     pub named : parentOf x v ≡ some parent
     pub near : distanceOf x parent ≡ some d
-    pub link : Joins g parent v
+    pub edge : Joins g parent v
 
   -- a vertex other than the source has no distance 0
   pub not-zero : (v : ℕ) → (v ≡ source → ⊥) → (k : ℕ) → distanceOf x v ≡ some k → 0 < k
@@ -40,20 +40,20 @@ module _ {g : Graph} {source : ℕ} {x : Labels} (c : Certified g source x) wher
   parent-before v d e =
       let r = c .parent v (vertex-below v (suc d) e) (λ q. omega (arith, mem-unique (c .source) (rw q at e))) (rw e) in
       let depth : r .2 .depth ≡ d = omega (arith, mem-unique (r .2 .there) e) in
-      record { parent = r .0; named = r .1; near = rw depth at (r .2 .here); link = r .2 .link }
+      record { parent = r .0; named = r .1; near = rw depth at (r .2 .here); edge = r .2 .edge }
 
   -- a vertex set to d is the end of a path of d links: that of its parent and one link more
   certified-walk : (d v : ℕ) → distanceOf x v ≡ some d → Walk g source v d
   certified-walk zero v e = elim (ℕ-discrete v source) [ yes same ↦ rw same stay | no apart ↦ absurd (omega (arith, not-zero v apart 0 e)) ]
-  certified-walk (suc d) v e = let a = parent-before v d e in onward (certified-walk d (a .parent) (a .near)) (a .link)
+  certified-walk (suc d) v e = let a = parent-before v d e in onward (certified-walk d (a .parent) (a .near)) (a .edge)
 
 module _ {g : Graph} {source : ℕ} (ground : Ground g source) where
   module _ {x : Labels} (r : Right g source x) where
     -- right labels: the end of every path is set, to no more than its links
-    right-within : {v k : ℕ} → Walk g source v k → Within x v k
+    right-within : {v k : ℕ} → Walk g source v k → SetWithin x v k
     right-within {v} {k} w = go (distanceOf x v) refl
       where
-        go : (l : Option ℕ) → distanceOf x v ≡ l → Within x v k
+        go : (l : Option ℕ) → distanceOf x v ≡ l → SetWithin x v k
         go none e = absurd (r .unreached v k (walk-below ground w) e w)
         go (some j) e = record { value = j; is = e; most = r .shortest v j (walk-below ground w) e .least k w }
 
@@ -72,7 +72,7 @@ module _ {g : Graph} {source : ℕ} (ground : Ground g source) where
 
   module _ {x : Labels} (c : Certified g source x) where
     -- certified labels: the end of every path is set, to no more than its links
-    certified-within : {v k : ℕ} → Walk g source v k → Within x v k
+    certified-within : {v k : ℕ} → Walk g source v k → SetWithin x v k
     certified-within stay = record { value = 0; is = c .source; most = omega arith }
     certified-within (onward {u = u} w j) =
         let a = certified-within w in

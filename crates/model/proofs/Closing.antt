@@ -16,7 +16,7 @@ use Rattle.pennant.specs.Held.{only, copies}
 use Rattle.pennant.proofs.Laws.{empty-weighs, taken-held, shaped-empty}
 use Rattle.model.specs.Paths.{edgeTarget, Walk, stay, onward, Distance, Labels, distanceOf, parentOf, isSet, Certified}
 use Rattle.model.specs.State.{free, Worker, workerWith, idleWorker, State, workerAt}
-use Rattle.model.specs.Table.{allIdle, united, handedIn, closed}
+use Rattle.model.specs.Table.{allIdle, unitedOutputs, handedIn, closed}
 use Rattle.model.specs.Demand.{LayerOpen}
 use Rattle.model.proofs.Counts.{setOne, handOf, namingOf, atOf, outputs}
 use Rattle.model.proofs.Sound.{LabelsSound, CrewSound, Sound}
@@ -59,7 +59,7 @@ module _ {g : Graph} {source P d : ℕ} {x : Labels} {workers : List Worker}
           let last = walk-last w d (omega (arith, leb-false k d q)) in
           let label = set-value (distanceOf x (last .before)) (l .near (last .before) d (last .walk) (omega arith)) in
           let low = l .written (last .before) (label .value) (label .is) .least d (last .walk) in
-          rw (last .link .leads) at (target-set (last .before) (label .value) (last .link .place) (label .is) low (last .link .there))
+          rw (last .edge .leads) at (target-set (last .before) (label .value) (last .edge .place) (label .is) low (last .edge .there))
 
   -- every vertex of the next layer has its label
   next-labelled : (v : ℕ) → Distance g source v (suc d) → distanceOf x v ≡ some (suc d)
@@ -70,23 +70,23 @@ module _ {g : Graph} {source P d : ℕ} {x : Labels} {workers : List Worker}
   parent-set v e = omega (arith, c .parented v e, none-busy workers all-free (namingOf v) refl)
 
   -- the united bag holds what the output bags hold
-  united-copies : (v : ℕ) → copies v (united workers) ≡ outputs v workers
-  unfolding united
+  united-copies : (v : ℕ) → copies v (unitedOutputs workers) ≡ outputs v workers
+  unfolding unitedOutputs
   united-copies v =
       let before = workerAt workers 0 .input in
       omega (arith, weigh-unions (λ (w : Worker). w .output) (only v) before workers, empty-weighs (only v) before (idle 0 .input-empty))
 
   -- which is the vertices that are set for the next layer
-  united-next : (v : ℕ) → 1 ≤ copies v (united workers) → distanceOf x v ≡ some (suc d)
+  united-next : (v : ℕ) → 1 ≤ copies v (unitedOutputs workers) → distanceOf x v ≡ some (suc d)
   united-next v h = c .output-next v (omega (arith, united-copies v))
 
   -- all of them
-  next-united : (v : ℕ) → distanceOf x v ≡ some (suc d) → 1 ≤ copies v (united workers)
+  next-united : (v : ℕ) → distanceOf x v ≡ some (suc d) → 1 ≤ copies v (unitedOutputs workers)
   next-united v e = omega (arith, united-copies v, c .stowed v e, none-busy workers all-free (handOf v) refl)
 
   -- so it holds the next layer
-  united-bag : LayerBag g source P (suc d) (united workers)
-  unfolding united
+  united-bag : LayerBag g source P (suc d) (unitedOutputs workers)
+  unfolding unitedOutputs
   united-bag = record {
     every = λ v far. next-united v (next-labelled v far);
     no-other = λ v h. l .written v (suc d) (united-next v h);
@@ -124,12 +124,12 @@ module _ {g : Graph} {source P d : ℕ} {x : Labels} {workers : List Worker}
 
   -- the state that a close leaves, if it raises the layer
   abbrev next : State
-  next = record { labels = x; workers = set (map handedIn workers) 0 (workerWith (united workers) emptyBag free); layer = suc d; finished = false }
+  next = record { labels = x; workers = set (map handedIn workers) 0 (workerWith (unitedOutputs workers) emptyBag free); layer = suc d; finished = false }
 
   -- is sound, if an output bag holds a vertex
-  next-sound : 1 ≤ P → isEmpty (united workers) ≡ false → Sound g source P next
-  next-sound p filled = let v = takenNumber (united workers) in record {
-    labels-sound = next-labels v (united-next v (taken-held (united workers) filled));
+  next-sound : 1 ≤ P → isEmpty (unitedOutputs workers) ≡ false → Sound g source P next
+  next-sound p filled = let v = takenNumber (unitedOutputs workers) in record {
+    labels-sound = next-labels v (united-next v (taken-held (unitedOutputs workers) filled));
     crew-sound = fresh-sound (handed-in p) united-bag (λ u e. omega (arith, l .not-far u (suc (suc d)) e)) parent-set;
   }
 
@@ -142,16 +142,16 @@ module _ {g : Graph} {source P d : ℕ} {x : Labels} {workers : List Worker}
   named-set v p e = elim (ℕ-discrete v source) [ yes q ↦ rw q (l .near source 0 stay (omega arith)) | no q ↦ rw (l .parent v p q e .there) ]
 
   -- if no output bag holds anything, no vertex is set for the next layer
-  last-layer : isEmpty (united workers) ≡ true → (v k : ℕ) → distanceOf x v ≡ some k → k ≤ d
+  last-layer : isEmpty (unitedOutputs workers) ≡ true → (v k : ℕ) → distanceOf x v ≡ some k → k ≤ d
   last-layer empty v k e = elim (decLe k d) [
     | yes h ↦ h
     | no h ↦
         let same : k ≡ suc d = omega (arith, l .not-far v k e) in
-        absurd (omega (arith, next-united v (rw same at e), empty-weighs (only v) (united workers) empty))
+        absurd (omega (arith, next-united v (rw same at e), empty-weighs (only v) (unitedOutputs workers) empty))
   ]
 
   -- and the labels are certified
-  last-certified : isEmpty (united workers) ≡ true → Certified g source x
+  last-certified : isEmpty (unitedOutputs workers) ≡ true → Certified g source x
   last-certified empty = record {
     distances-all = l .distances-all;
     parents-all = l .parents-all;
@@ -173,18 +173,18 @@ module _ {g : Graph} {source P d : ℕ} {x : Labels} {workers : List Worker}
 
 module _ {g : Graph} {source : ℕ} where
   -- a close that raises the layer leaves a sound state
-  pub close-sound : {P : ℕ} {s : State} → 1 ≤ P → Sound g source P s → allIdle (s .workers) ≡ true → isEmpty (united (s .workers)) ≡ false
-      → Sound g source P (closed s (united (s .workers)))
+  pub close-sound : {P : ℕ} {s : State} → 1 ≤ P → Sound g source P s → allIdle (s .workers) ≡ true → isEmpty (unitedOutputs (s .workers)) ≡ false
+      → Sound g source P (closed s (unitedOutputs (s .workers)))
   unfolding closed
   close-sound {s = s} p h idle filled = rw filled (next-sound (h .labels-sound) (h .crew-sound) (idle-each (s .workers) idle) p filled)
 
   -- and opens the next layer
-  pub close-opens : {P : ℕ} {s : State} → 1 ≤ P → Sound g source P s → allIdle (s .workers) ≡ true → isEmpty (united (s .workers)) ≡ false
-      → LayerOpen g source P (closed s (united (s .workers)))
+  pub close-opens : {P : ℕ} {s : State} → 1 ≤ P → Sound g source P s → allIdle (s .workers) ≡ true → isEmpty (unitedOutputs (s .workers)) ≡ false
+      → LayerOpen g source P (closed s (unitedOutputs (s .workers)))
   unfolding closed
   close-opens {s = s} p h idle filled = rw filled (next-opens (h .labels-sound) (h .crew-sound) (idle-each (s .workers) idle) p)
 
   -- a close that finishes leaves labels that are certified
-  pub close-certified : {P : ℕ} {s : State} → Sound g source P s → allIdle (s .workers) ≡ true → isEmpty (united (s .workers)) ≡ true
+  pub close-certified : {P : ℕ} {s : State} → Sound g source P s → allIdle (s .workers) ≡ true → isEmpty (unitedOutputs (s .workers)) ≡ true
       → Certified g source (s .labels)
   close-certified {s = s} h idle empty = last-certified (h .labels-sound) (h .crew-sound) (idle-each (s .workers) idle) empty

@@ -20,7 +20,7 @@ use Rattle.schedule.specs.declared.Event.the-variants.{Work, Split, Unite, Clos
 use Rattle.model.specs.Paths.{Labels, distanceOf}
 use Rattle.model.specs.State.{Phase, free, holding, inHand, marked, named, Worker, workerWith, idleWorker}
 use Rattle.model.specs.State.{State, workerAt, openingLabels, openingState}
-use Rattle.model.specs.Table.{holdAt, mark, name, move, moved, withWorkers, splitInputs, uniteOutputs, allIdle, united, handedIn, closed, act}
+use Rattle.model.specs.Table.{holdAt, mark, name, move, afterMove, replaceWorkers, splitInputs, uniteOutputs, allIdle, unitedOutputs, handedIn, closed, act, moveOf}
 use Rattle.model.specs.Play.{eventBound}
 use Rattle.model.proofs.Sound.{Ground, PhaseSound, Sound}
 use Rattle.model.proofs.Walks.{target-below}
@@ -106,13 +106,13 @@ module _ (g : Graph) where
       omega (arith, empty-output g, ap (phaseCost g x) (idle .0 .phase-free), empty-weighs (itemCost g) (w .input) (idle .0 .input-empty), handed-cost x workers (idle .1))
 
   -- what is united costs less in one input bag than in the output bags
-  united-cost : (x : Labels) (workers : List Worker) → 1 ≤ length workers → allIdle workers ≡ true → isEmpty (united workers) ≡ false
-      → suc (sumOf (workerCost g x) (set (map handedIn workers) 0 (workerWith (united workers) emptyBag free))) ≤ sumOf (workerCost g x) workers
-  unfolding united sumOf
+  united-cost : (x : Labels) (workers : List Worker) → 1 ≤ length workers → allIdle workers ≡ true → isEmpty (unitedOutputs workers) ≡ false
+      → suc (sumOf (workerCost g x) (set (map handedIn workers) 0 (workerWith (unitedOutputs workers) emptyBag free))) ≤ sumOf (workerCost g x) workers
+  unfolding unitedOutputs sumOf
   united-cost x [] staffed e filled = absurd (omega arith)
   united-cost x (w ∷ workers) staffed e filled =
       let idle = idle-first w workers e in
-      let bag = united (w ∷ workers) in
+      let bag = unitedOutputs (w ∷ workers) in
       let outputs = sum-most (λ (v : Worker). weigh (itemCost g) (v .output)) (workerCost g x) 0 (λ v. omega arith) (w ∷ workers) in
       omega (
         arith,
@@ -149,18 +149,18 @@ module _ {g : Graph} {source : ℕ} (ground : Ground g source) where
 
   -- an effective work lowers the cost
   pub work-cost : {P : ℕ} {s t : State} (w : ℕ) → Sound g source P s → w < P → act g s (Work w) ≡ some t → suc (cost P g t) ≤ cost P g s
-  unfolding act moved cost
-  work-cost {P} {s} {t} w h below e = go (move g (s .layer) (s .labels) (x .input) (x .output) (x .phase)) lowers e
+  unfolding act afterMove cost
+  work-cost {P} {s} {t} w h below e = go (moveOf g (s .layer) (s .labels) x) lowers e
     where
       x : Worker
       x = workerAt (s .workers) w
 
-      lowers : MoveLowers g (s .labels) x (move g (s .layer) (s .labels) (x .input) (x .output) (x .phase))
+      lowers : MoveLowers g (s .labels) x (moveOf g (s .layer) (s .labels) x)
       lowers =
           let sound = h .crew-sound .each w in
           move-lowers (s .layer) (s .labels) (x .input) (x .output) (x .phase) (h .labels-sound .distances-all) (sound .input-shaped) (sound .phase-sound)
 
-      go : (m : Option (Worker × Labels)) → MoveLowers g (s .labels) x m → moved s w m ≡ some t → suc (cost P g t) ≤ cost P g s
+      go : (m : Option (Worker × Labels)) → MoveLowers g (s .labels) x m → afterMove s w m ≡ some t → suc (cost P g t) ≤ cost P g s
       go none low e = absurd (Option·none-ne-some t e)
       go (some m) low e =
           let crew = h .crew-sound .crew in
@@ -172,7 +172,7 @@ module _ {g : Graph} {source : ℕ} (ground : Ground g source) where
   two-cost : {P : ℕ} {s : State} (w v : ℕ) (x y : Worker) → Sound g source P s → w < P → v < P → (w ≡ v → ⊥)
       → suc (workerCost g (s .labels) y + workerCost g (s .labels) x)
       ≤ workerCost g (s .labels) (workerAt (s .workers) v) + workerCost g (s .labels) (workerAt (s .workers) w)
-      → suc (cost P g (withWorkers s (set (set (s .workers) v y) w x))) ≤ cost P g s
+      → suc (cost P g (replaceWorkers s (set (set (s .workers) v y) w x))) ≤ cost P g s
   unfolding cost
   two-cost {P} {s} w v x y h k l apart less =
       let crew = h .crew-sound .crew in
@@ -184,7 +184,7 @@ module _ {g : Graph} {source : ℕ} (ground : Ground g source) where
   unfolding act splitInputs
   split-cost {P} {s} {t} w v h k l apart e =
       let bag = workerAt (s .workers) v .input in
-      let met = effective _ (withWorkers s (splitInputs (s .workers) w v)) t e in
+      let met = effective _ (replaceWorkers s (splitInputs (s .workers) w v)) t e in
       let both = and-eq-true-iff (isEmpty (workerAt (s .workers) w .input)) (atLeastTwo bag) .0 (met .0) in
       let filled = split-filled bag (h .crew-sound .each v .input-shaped) (both .1) in
       rw (← met .1) (two-cost w v _ _ h k l apart (omega (
@@ -204,7 +204,7 @@ module _ {g : Graph} {source : ℕ} (ground : Ground g source) where
   unite-cost {P} {s} {t} w v h k l apart e =
       let from = workerAt (s .workers) w .output in
       let into = workerAt (s .workers) v .output in
-      let met = effective _ (withWorkers s (uniteOutputs (s .workers) w v)) t e in
+      let met = effective _ (replaceWorkers s (uniteOutputs (s .workers) w v)) t e in
       let both = and-eq-true-iff (not (isEmpty from)) (not (isEmpty into)) .0 (met .0) in
       rw (← met .1) (two-cost w v _ _ h k l apart (omega (
         arith,
@@ -219,10 +219,10 @@ module _ {g : Graph} {source : ℕ} (ground : Ground g source) where
   pub close-cost : {P : ℕ} {s t : State} → 1 ≤ P → Sound g source P s → s .finished ≡ false → act g s Close ≡ some t → suc (cost P g t) ≤ cost P g s
   unfolding act closed cost
   close-cost {P} {s} {t} p h f e =
-      let met = effective (allIdle (s .workers)) (closed s (united (s .workers))) t e in
-      rw (← met .1) (go (isEmpty (united (s .workers))) refl (met .0))
+      let met = effective (allIdle (s .workers)) (closed s (unitedOutputs (s .workers))) t e in
+      rw (← met .1) (go (isEmpty (unitedOutputs (s .workers))) refl (met .0))
     where
-      go : (b : Bool) → isEmpty (united (s .workers)) ≡ b → allIdle (s .workers) ≡ true → suc (cost P g (closed s (united (s .workers)))) ≤ cost P g s
+      go : (b : Bool) → isEmpty (unitedOutputs (s .workers)) ≡ b → allIdle (s .workers) ≡ true → suc (cost P g (closed s (unitedOutputs (s .workers)))) ≤ cost P g s
       go true q idle = rw (q, f) (omega arith)
       go false q idle = rw (q, f) (omega (arith, united-cost g (s .labels) (s .workers) (rw (h .crew-sound .crew) p) idle q))
 

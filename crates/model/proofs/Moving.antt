@@ -15,7 +15,7 @@ use Rattle.pennant.specs.Held.{only, copies, Shaped}
 use Rattle.pennant.proofs.Laws.{weigh-insert, weigh-rest, only-self, taken-held, shaped-insert, shaped-rest}
 use Rattle.model.specs.Paths.{edgeTarget, Distance, Labels, distanceOf, parentOf, isSet}
 use Rattle.model.specs.State.{Phase, free, holding, inHand, marked, named, Worker, workerWith}
-use Rattle.model.specs.Table.{holdAt, look, mark, name, move}
+use Rattle.model.specs.Table.{holdAt, look, mark, name, move, moveOf}
 use Rattle.model.proofs.Counts.{setOne, handOf, namingOf, atOf}
 use Rattle.model.proofs.Sound.{Ground, LabelsSound, PhaseSound, WorkerSound, Moves}
 use Rattle.model.proofs.LabelFacts.{set-one, unset-none, not-both}
@@ -212,6 +212,6 @@ module _ {g : Graph} {source : ℕ} (ground : Ground g source) where
 
   -- a move keeps the labels sound, and does to the sums what is claimed of a move
   pub move-after : {d : ℕ} {a : Labels} {x : Worker} {m : Worker × Labels} → LabelsSound g source d a → WorkerSound g source d a x
-      → ((v : ℕ) → 1 ≤ copies v (x .input) → Distance g source v d) → move g d a (x .input) (x .output) (x .phase) ≡ some m
+      → ((v : ℕ) → 1 ≤ copies v (x .input) → Distance g source v d) → moveOf g d a x ≡ some m
       → LabelsSound g source d (m .1) × Moves g source d a (m .1) x (m .0)
   move-after {x = x} l w near e = rw e at (move-each l (x .input) (x .output) (x .phase) w near)

@@ -21,7 +21,7 @@ use Rattle.model.proofs.LabelFacts.{set-value, layer-is}
 -- a parent that is nearer stays so while the distances that are set stay
 nearer-kept : {g : Graph} {a b : Labels} {p v : ℕ} → ((u k : ℕ) → distanceOf a u ≡ some k → distanceOf b u ≡ some k) → Nearer g a p v → Nearer g b p v
 nearer-kept {p = p} {v = v} keeps n =
-    record { link = n .link; depth = n .depth; here = keeps p (n .depth) (n .here); there = keeps v (suc (n .depth)) (n .there) }
+    record { edge = n .edge; depth = n .depth; here = keeps p (n .depth) (n .here); there = keeps v (suc (n .depth)) (n .there) }
 
 module _ {g : Graph} {source : ℕ} (ground : Ground g source) {d : ℕ} {a : Labels} (l : LabelsSound g source d a) where
   -- a label that is set is the distance
@@ -107,7 +107,7 @@ module _ {g : Graph} {source : ℕ} (ground : Ground g source) {d : ℕ} {a : La
     name-nearer : Nearer g (name u t a) u t
     unfolding name
     name-nearer = record {
-      link = record { place = i; there = w .found .at .there; leads = w .found .leads };
+      edge = record { place = i; there = w .found .at .there; leads = w .found .leads };
       depth = d;
       here = layer-is l u (w .found .at .far);
       there = w .marked;

@@ -13,15 +13,15 @@ use Rattle.schedule.specs.declared.Event.the-variants.{Work, Split, Unite, Clos
 use Rattle.schedule.specs.Events.{eventOf}
 use Rattle.model.specs.Paths.{Labels}
 use Rattle.model.specs.State.{Worker, State, workerAt}
-use Rattle.model.specs.Table.{moved, splitInputs, uniteOutputs, allIdle, united, closed, act, handedIn, withWorkers}
+use Rattle.model.specs.Table.{afterMove, splitInputs, uniteOutputs, allIdle, unitedOutputs, closed, act, handedIn, replaceWorkers}
 use Rattle.model.specs.Play.{Run, tally, step, playFrom, metOne}
 use Rattle.model.proofs.Workers.{effective}
 
 -- No event adds or removes a worker.
 
 -- a move puts a worker in the place of one
-moved-crew : (s t : State) (w : ℕ) (m : Option (Worker × Labels)) → moved s w m ≡ some t → length (t .workers) ≡ length (s .workers)
-unfolding moved
+moved-crew : (s t : State) (w : ℕ) (m : Option (Worker × Labels)) → afterMove s w m ≡ some t → length (t .workers) ≡ length (s .workers)
+unfolding afterMove
 moved-crew s t w none e = absurd (Option·none-ne-some t e)
 moved-crew s t w (some m) e = rw (← Option·some-injective _ t e) (length-set (s .workers) w (m .0))
 
@@ -52,11 +52,11 @@ unfolding act
 act-crew g s t (Work w) h = moved-crew s t w _ h
 act-crew g s t (Split w v) h =
     let met = isEmpty (workerAt (s .workers) w .input) && atLeastTwo (workerAt (s .workers) v .input) in
-    crew-after s t (withWorkers s (splitInputs (s .workers) w v)) met (split-crew (s .workers) w v) h
+    crew-after s t (replaceWorkers s (splitInputs (s .workers) w v)) met (split-crew (s .workers) w v) h
 act-crew g s t (Unite w v) h =
     let met = not (isEmpty (workerAt (s .workers) w .output)) && not (isEmpty (workerAt (s .workers) v .output)) in
-    crew-after s t (withWorkers s (uniteOutputs (s .workers) w v)) met (unite-crew (s .workers) w v) h
-act-crew g s t Close h = crew-after s t (closed s (united (s .workers))) (allIdle (s .workers)) (closed-crew s (united (s .workers)) _ refl) h
+    crew-after s t (replaceWorkers s (uniteOutputs (s .workers) w v)) met (unite-crew (s .workers) w v) h
+act-crew g s t Close h = crew-after s t (closed s (unitedOutputs (s .workers))) (allIdle (s .workers)) (closed-crew s (unitedOutputs (s .workers)) _ refl) h
 act-crew g s t Malformed h = absurd (Option·none-ne-some t h)
 
 -- One byte, and many.

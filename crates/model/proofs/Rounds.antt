@@ -18,7 +18,7 @@ use Rattle.schedule.specs.Events.{eventOf}
 use Rattle.schedule.proofs.Bytes.{event-work, event-close}
 use Rattle.model.specs.Paths.{Labels}
 use Rattle.model.specs.State.{Phase, free, holding, inHand, marked, named, Worker, workerWith, State, workerAt}
-use Rattle.model.specs.Table.{move, moved, allIdle, united, closed, act}
+use Rattle.model.specs.Table.{move, afterMove, allIdle, unitedOutputs, closed, act, moveOf}
 use Rattle.model.specs.Play.{Run, tally, step, playFrom, roundBytes, startsWith, rounds}
 use Rattle.model.proofs.Workers.{effective, Idle, all-idle}
 use Rattle.model.proofs.Plays.{tally-counts, step-on, step-crew, step-grows, play-grows, play-crew, play-unfinished, play-append}
@@ -37,13 +37,13 @@ stuck-idle g d x input output (marked u i t) b e h = absurd (Option·none-ne-som
 stuck-idle g d x input output (named u i t) b e h = absurd (Option·none-ne-some _ (sym h))
 
 -- .. and a move that is none is that of such a worker
-act-stuck : (s : State) (w : ℕ) (m : Option (Worker × Labels)) → moved s w m ≡ none → m ≡ none
-unfolding moved
+act-stuck : (s : State) (w : ℕ) (m : Option (Worker × Labels)) → afterMove s w m ≡ none → m ≡ none
+unfolding afterMove
 act-stuck s w none h = refl
 act-stuck s w (some m) h = absurd (Option·none-ne-some _ (sym h))
 
 -- a close where all are idle is effective
-act-close : (g : Graph) (s : State) → allIdle (s .workers) ≡ true → act g s Close ≡ some (closed s (united (s .workers)))
+act-close : (g : Graph) (s : State) → allIdle (s .workers) ≡ true → act g s Close ≡ some (closed s (unitedOutputs (s .workers)))
 unfolding act
 act-close g s e = rw e
 
@@ -52,7 +52,7 @@ work-idle : (g : Graph) (s : State) (w : ℕ) → act g s (Work w) ≡ none → 
 unfolding act
 work-idle g s w h =
     let x = workerAt (s .workers) w in
-    stuck-idle g (s .layer) (s .labels) (x .input) (x .output) (x .phase) _ refl (act-stuck s w (move g (s .layer) (s .labels) (x .input) (x .output) (x .phase)) h)
+    stuck-idle g (s .layer) (s .labels) (x .input) (x .output) (x .phase) _ refl (act-stuck s w (moveOf g (s .layer) (s .labels) x) h)
 
 -- one whose condition isn't met leaves the state
 tally-none : (r : Run) → tally r none .state ≡ r .state
@@ -68,10 +68,10 @@ round-grows : (g : Graph) (P : ℕ) → P ≤ 8 → (k j : ℕ) → j + k ≡ P 
     → ((w : ℕ) → w < j → Idle (workerAt (r .state .workers) w)) → suc (r .effective) ≤ playFrom g r (roundFrom j k) .effective
 unfolding playFrom numbersFrom
 round-grows g P few zero j e r f crew idle =
-    let now : act g (r .state) (eventOf 192) ≡ some (closed (r .state) (united (r .state .workers))) =
+    let now : act g (r .state) (eventOf 192) ≡ some (closed (r .state) (unitedOutputs (r .state .workers))) =
     rw event-close (act-close g (r .state) (all-idle (r .state .workers) (λ w h. idle w (omega arith)))) in
     let counted : step g r 192 .effective ≡ suc (r .effective) =
-    ap (λ (q : Run). q .effective) (step-on g r 192 f) ∙ ap (λ (o : Option State). tally r o .effective) now ∙ (tally-counts r (some (closed (r .state) (united (r .state .workers)))) .1 ∙ omega arith) in
+    ap (λ (q : Run). q .effective) (step-on g r 192 f) ∙ ap (λ (o : Option State). tally r o .effective) now ∙ (tally-counts r (some (closed (r .state) (unitedOutputs (r .state .workers)))) .1 ∙ omega arith) in
     omega (arith, counted)
 round-grows g P few (suc k) j e r f crew idle = go (act g (r .state) (Work j)) refl (round-grows g P few k (suc j) (omega arith) (step g r (8 * j)))
   where

@@ -15,7 +15,7 @@ use lib.Seq.{getD-set-same, getD-set-other, ext-getD}
 use borrow.Author.Tests.{eqb-true, eq-eqb}
 use Rattle.lists.specs.Lists.{numbersFrom}
 use Rattle.lists.proofs.Or.{or-none}
-use Rattle.lists.proofs.Members.{keep, keep-order, kept, keeps, in-rows, row-of, range-in, in-range}
+use Rattle.lists.proofs.Members.{keep, keep-order, kept, keeps, in-rows, row-of, range-in, range-below}
 use Rattle.lists.proofs.Parts.{place-below}
 use Rattle.graph.specs.Graph.{Graph, edges}
 use Rattle.model.specs.Paths.{edgeTarget, Labels, distanceOf, parentOf, isSet, Certified}
@@ -23,7 +23,7 @@ use Rattle.model.specs.State.{openingLabels}
 use Rattle.model.specs.Table.{mark, name}
 use Rattle.model.proofs.Certificate.{vertex-below, parent-before, not-zero}
 use Rattle.model.proofs.Alone.{alone-all, alone-own, alone-other}
-use Rattle.model.specs.Serial.{Link, linksFrom, isAt, layerLinks, follow, anyAt, Serial, ended, layer}
+use Rattle.model.specs.Serial.{EdgeAt, edgesFrom, isAt, layerEdges, follow, anyAt, Serial, ended, layer}
 
 -- a label that passes the test for d is set to d
 at-is : (d : ℕ) (o : Option ℕ) → isAt d o ≡ true → o ≡ some d
@@ -55,31 +55,31 @@ at-none d (o ∷ l) e zero h = true≢false (sym (is-at d h) ∙ or-none (isAt d
 at-none d (o ∷ l) e (suc v) h = at-none d l (or-none (isAt d o) (anyAt d l) e .1) v h
 
 -- a link of a layer starts at a vertex of distance d, at a place of its row
-record InLayer (g : Graph) (d : ℕ) (y : Labels) (e : Link) : Type 0 where
+record InLayer (g : Graph) (d : ℕ) (y : Labels) (e : EdgeAt) : Type 0 where
   from : distanceOf y (e .start) ≡ some d
   there : e .place < length (edges g (e .start))
 
 module _ (g : Graph) (d : ℕ) (y : Labels) where
   -- the links of the layer that start at u, if any
-  linksAt : ℕ → List Link
-  linksAt u = cond (isAt d (distanceOf y u)) (linksFrom g u) []
+  linksAt : ℕ → List EdgeAt
+  linksAt u = cond (isAt d (distanceOf y u)) (edgesFrom g u) []
 
   -- a link that starts so is among the layer's links
-  layer-has : (e : Link) → e .start < length g → InLayer g d y e → List·Memᴰ e (layerLinks g d y)
-  unfolding layerLinks linksFrom linksAt
+  layer-has : (e : EdgeAt) → e .start < length g → InLayer g d y e → List·Memᴰ e (layerEdges g d y)
+  unfolding layerEdges edgesFrom linksAt
   layer-has e below h =
-      let inside : List·Memᴰ e (linksFrom g (e .start)) = Memᴰ·map (λ (i : ℕ). record { start = e .start; place = i }) (range-in (h .there)) in
+      let inside : List·Memᴰ e (edgesFrom g (e .start)) = Memᴰ·map (λ (i : ℕ). record { start = e .start; place = i }) (range-in (h .there)) in
       in-rows linksAt (range-in below) (rw (linksAt, is-at d (h .from)) inside)
 
   -- and every one of them starts so
-  layer-only : (e : Link) → List·Memᴰ e (layerLinks g d y) → InLayer g d y e
-  unfolding layerLinks linksFrom linksAt
+  layer-only : (e : EdgeAt) → List·Memᴰ e (layerEdges g d y) → InLayer g d y e
+  unfolding layerEdges edgesFrom linksAt
   layer-only e m = let r = row-of linksAt (numbersFrom 0 (length g)) m in go (r .row) (isAt d (distanceOf y (r .row))) refl (r .inside)
     where
-      go : (u : ℕ) (b : Bool) → isAt d (distanceOf y u) ≡ b → List·Memᴰ e (cond b (linksFrom g u) []) → InLayer g d y e
+      go : (u : ℕ) (b : Bool) → isAt d (distanceOf y u) ≡ b → List·Memᴰ e (cond b (edgesFrom g u) []) → InLayer g d y e
       go u true q n =
           let r = Memᴰ·of-map (λ (i : ℕ). record { start = u; place = i }) (numbersFrom 0 (length (edges g u))) n in
-          subst (InLayer g d y) (r .2) (record { from = at-is d (distanceOf y u) q; there = in-range (length (edges g u)) (r .1) })
+          subst (InLayer g d y) (r .2) (record { from = at-is d (distanceOf y u) q; there = range-below (length (edges g u)) (r .1) })
       go u false q n = absurd (List·Memᴰ·not-nil n)
 
 -- the labels of a vertex on the way to x: as in x; or blank, and then its distance in x is above d, if it has one
@@ -121,38 +121,38 @@ module _ {x : Labels} {d : ℕ} {y : Labels} (p : Partly x d y) where
 
 module _ (g : Graph) (x : Labels) (d : ℕ) where
   -- where a link leads
-  abbrev end : Link → ℕ
+  abbrev end : EdgeAt → ℕ
   end e = edgeTarget g (e .start) (e .place)
 
   -- a link of the tree: by it x has its end's parent, and that end is at distance d + 1
-  isTree : Link → Bool
+  isTree : EdgeAt → Bool
   isTree e = isAt (suc d) (distanceOf x (end e)) && isAt (e .start) (parentOf x (end e))
 
   -- a link of the tree, as equations
-  record Tree (e : Link) : Type 0 where
+  record TreeEdge (e : EdgeAt) : Type 0 where
     far : distanceOf x (end e) ≡ some (suc d)
     named : parentOf x (end e) ≡ some (e .start)
 
   -- what the test tells
-  tree-is : (e : Link) → isTree e ≡ true → Tree e
+  tree-is : (e : EdgeAt) → isTree e ≡ true → TreeEdge e
   unfolding isTree
   tree-is e h =
       let both = and-eq-true-iff (isAt (suc d) (distanceOf x (end e))) (isAt (e .start) (parentOf x (end e))) .0 h in
       record { far = at-is (suc d) (distanceOf x (end e)) (both .0); named = at-is (e .start) (parentOf x (end e)) (both .1) }
 
   -- and the other way
-  is-tree : {e : Link} → Tree e → isTree e ≡ true
+  is-tree : {e : EdgeAt} → TreeEdge e → isTree e ≡ true
   unfolding isTree
   is-tree {e} h = rw (is-at (suc d) (h .far)) (is-at (e .start) (h .named))
 
   -- the labels z after links of the tree from the labels y: still on the way, nothing unset again, and the links' ends set
-  record Followed (y : Labels) (links : List Link) (z : Labels) : Type 0 where
+  record Followed (y : Labels) (links : List EdgeAt) (z : Labels) : Type 0 where
     partly : Partly x d z
     stays : (v k : ℕ) → distanceOf y v ≡ some k → distanceOf z v ≡ some k
-    reached : (e : Link) → List·Memᴰ e links → distanceOf z (end e) ≡ some (suc d)
+    reached : (e : EdgeAt) → List·Memᴰ e links → distanceOf z (end e) ≡ some (suc d)
 
   -- one link of the tree
-  follow-one : (y : Labels) (e : Link) → Partly x d y → Tree e → Followed y (e ∷ []) (follow g d y e)
+  follow-one : (y : Labels) (e : EdgeAt) → Partly x d y → TreeEdge e → Followed y (e ∷ []) (follow g d y e)
   unfolding follow mark name
   follow-one y e p h = go (distanceOf y (end e)) refl
     where
@@ -193,7 +193,7 @@ module _ (g : Graph) (x : Labels) (d : ℕ) where
       }
 
   -- many of them
-  follow-tree : (y : Labels) (links : List Link) → Partly x d y → ((e : Link) → List·Memᴰ e links → Tree e)
+  follow-tree : (y : Labels) (links : List EdgeAt) → Partly x d y → ((e : EdgeAt) → List·Memᴰ e links → TreeEdge e)
       → Followed y links (foldl (follow g d) y links)
   follow-tree y [] p h = record { partly = p; stays = λ v k r. r; reached = λ e m. absurd (List·Memᴰ·not-nil m) }
   follow-tree y (e ∷ links) p h =
@@ -208,13 +208,13 @@ module _ (g : Graph) (x : Labels) (d : ℕ) where
       after : Labels
       after = foldl (follow g d) (follow g d y e) links
 
-      go : (f : Link) → distanceOf (follow g d y e) (end e) ≡ some (suc d) → Followed (follow g d y e) links after
+      go : (f : EdgeAt) → distanceOf (follow g d y e) (end e) ≡ some (suc d) → Followed (follow g d y e) links after
           → (f ≡ e) ⊎ List·Memᴰ f links → distanceOf after (end f) ≡ some (suc d)
       go f now rest (inl q) = rw q (rest .stays (end e) (suc d) now)
       go f now rest (inr m) = rest .reached f m
 
   -- links whose ends are set change nothing
-  follow-rest : (y : Labels) (links : List Link) → ((e : Link) → List·Memᴰ e links → isSet (distanceOf y (end e)) ≡ true)
+  follow-rest : (y : Labels) (links : List EdgeAt) → ((e : EdgeAt) → List·Memᴰ e links → isSet (distanceOf y (end e)) ≡ true)
       → foldl (follow g d) y links ≡ y
   unfolding follow
   follow-rest y [] h = refl
@@ -278,22 +278,22 @@ module _ {g : Graph} {source : ℕ} {x : Labels} (c : Certified g source x) wher
   stop d y p e = subst (Serial g d y) (whole d y p e) (ended e)
 
   -- the order in which a layer's links are taken: first those of the tree
-  orderOf : ℕ → Labels → List Link
-  orderOf d y = let links = layerLinks g d y in keep (isTree g x d) links ++ keep (λ (e : Link). not (isTree g x d e)) links
+  orderOf : ℕ → Labels → List EdgeAt
+  orderOf d y = let links = layerEdges g d y in keep (isTree g x d) links ++ keep (λ (e : EdgeAt). not (isTree g x d e)) links
 
   -- it leads from distance d to d + 1
   layer-partly : (d : ℕ) (y : Labels) → Partly x d y → Partly x (suc d) (foldl (follow g d) y (orderOf d y))
   unfolding orderOf
   layer-partly d y p = rw (foldl-append (follow g d) y first rest, follow-rest g x d z rest rest-set) (raise (done .partly) (suc d) next-set)
     where
-      links : List Link
-      links = layerLinks g d y
+      links : List EdgeAt
+      links = layerEdges g d y
 
-      first : List Link
+      first : List EdgeAt
       first = keep (isTree g x d) links
 
-      rest : List Link
-      rest = keep (λ (e : Link). not (isTree g x d e)) links
+      rest : List EdgeAt
+      rest = keep (λ (e : EdgeAt). not (isTree g x d e)) links
 
       z : Labels
       z = foldl (follow g d) y first
@@ -307,16 +307,16 @@ module _ {g : Graph} {source : ℕ} {x : Labels} (c : Certified g source x) wher
           go : Dec (k ≡ suc d) → distanceOf z v ≡ some k
           go (yes q) =
               let a = parent-before c v d (rw q at e) in
-              let f : Link = record { start = a .parent; place = a .link .place } in
-              let by-it : Tree g x d f = record { far = rw (a .link .leads, ← q) e; named = rw (a .link .leads) (a .named) } in
-              let starts : InLayer g d y f = record { from = near-set p (a .parent) d (a .near) (omega arith); there = a .link .there } in
+              let f : EdgeAt = record { start = a .parent; place = a .edge .place } in
+              let by-it : TreeEdge g x d f = record { far = rw (a .edge .leads, ← q) e; named = rw (a .edge .leads) (a .named) } in
+              let starts : InLayer g d y f = record { from = near-set p (a .parent) d (a .near) (omega arith); there = a .edge .there } in
               let among : List·Memᴰ f links = layer-has g d y f (vertex-below c (a .parent) d (a .near)) starts in
-              rw (a .link .leads, ← q) at (done .reached f (keeps (isTree g x d) among (is-tree g x d by-it)))
+              rw (a .edge .leads, ← q) at (done .reached f (keeps (isTree g x d) among (is-tree g x d by-it)))
           go (no q) = near-set (done .partly) v k e (omega arith)
 
-      rest-set : (e : Link) → List·Memᴰ e rest → isSet (distanceOf z (edgeTarget g (e .start) (e .place))) ≡ true
+      rest-set : (e : EdgeAt) → List·Memᴰ e rest → isSet (distanceOf z (edgeTarget g (e .start) (e .place))) ≡ true
       rest-set e m =
-          let l = layer-only g d y e (kept (λ (f : Link). not (isTree g x d f)) links m .0) in
+          let l = layer-only g d y e (kept (λ (f : EdgeAt). not (isTree g x d f)) links m .0) in
           let here : distanceOf x (e .start) ≡ some d = set-final p (e .start) d (l .from) in
           let r = c .onward (e .start) d (e .place) (vertex-below c (e .start) d here) here (l .there) in
           rw (next-set (edgeTarget g (e .start) (e .place)) (r .0) (r .1) (r .2)) refl
@@ -337,7 +337,7 @@ module _ {g : Graph} {source : ℕ} {x : Labels} (c : Certified g source x) wher
       go (anyAt d (y .distances)) refl (run-from below fuel (suc d) (foldl (follow g d) y (orderOf d y)) (omega arith) (layer-partly d y p))
     where
       go : (b : Bool) → anyAt d (y .distances) ≡ b → Serial g (suc d) (foldl (follow g d) y (orderOf d y)) x → Serial g d y x
-      go true q rest = layer q (orderOf d y) (keep-order (isTree g x d) (layerLinks g d y)) rest
+      go true q rest = layer q (orderOf d y) (keep-order (isTree g x d) (layerEdges g d y)) rest
       go false q rest = stop d y p q
 
 module _ {g : Graph} {source : ℕ} where

@@ -17,7 +17,7 @@ use Rattle.schedule.specs.Events.{eventOf, within}
 use Rattle.schedule.proofs.Bytes.{Staffed, byte-staffed}
 use Rattle.model.specs.Paths.{Distance, Labels, Certified}
 use Rattle.model.specs.State.{Worker, idleWorker, State, workerAt}
-use Rattle.model.specs.Table.{move, moved, withWorkers, splitInputs, uniteOutputs, allIdle, united, closed, act}
+use Rattle.model.specs.Table.{move, afterMove, replaceWorkers, splitInputs, uniteOutputs, allIdle, unitedOutputs, closed, act, moveOf}
 use Rattle.model.specs.Play.{Run, tally, step, eventBound}
 use Rattle.model.specs.Demand.{LayerOpen}
 use Rattle.model.proofs.Sound.{Ground, CrewSound, Sound}
@@ -58,9 +58,9 @@ module _ {g : Graph} {source : ℕ} (ground : Ground g source) {P : ℕ} where
 
   -- a worker's move
   moved-kept : (s t : State) (w : ℕ) → Sound g source P s → w < P → (m : Option (Worker × Labels))
-      → move g (s .layer) (s .labels) (workerAt (s .workers) w .input) (workerAt (s .workers) w .output) (workerAt (s .workers) w .phase) ≡ m
-      → moved s w m ≡ some t → Kept g source P s t
-  unfolding moved
+      → moveOf g (s .layer) (s .labels) (workerAt (s .workers) w) ≡ m
+      → afterMove s w m ≡ some t → Kept g source P s t
+  unfolding afterMove
   moved-kept s t w h below none e k = absurd (Option·none-ne-some t k)
   moved-kept s t w h below (some m) e k =
       let after : State = record { labels = m .1; workers = set (s .workers) w (m .0); layer = s .layer; finished = s .finished } in
@@ -75,7 +75,7 @@ module _ {g : Graph} {source : ℕ} (ground : Ground g source) {P : ℕ} where
       rw (← same) kept
 
   -- other workers, the same labels
-  workers-kept : (s : State) (workers : List Worker) → Sound g source P s → CrewSound g source P (s .layer) (s .labels) workers → Kept g source P s (withWorkers s workers)
+  workers-kept : (s : State) (workers : List Worker) → Sound g source P s → CrewSound g source P (s .layer) (s .labels) workers → Kept g source P s (replaceWorkers s workers)
   workers-kept s workers h c = record { sound = record { labels-sound = h .labels-sound; crew-sound = c }; same-layer = refl; same-end = refl }
 
   -- work
@@ -89,7 +89,7 @@ module _ {g : Graph} {source : ℕ} (ground : Ground g source) {P : ℕ} where
   split-kept s t w v h fits k =
       let x = workerAt (s .workers) w .input in
       let y = workerAt (s .workers) v .input in
-      let met = effective (isEmpty x && atLeastTwo y) (withWorkers s (splitInputs (s .workers) w v)) t k in
+      let met = effective (isEmpty x && atLeastTwo y) (replaceWorkers s (splitInputs (s .workers) w v)) t k in
       let both = and-eq-true-iff (isEmpty x) (atLeastTwo y) .0 (met .0) in
       rw (← met .1) (workers-kept s (splitInputs (s .workers) w v) h (crew-split (s .workers) w v (h .crew-sound) (fits .0) (fits .1) (fits .2) (both .0)))
 
@@ -99,7 +99,7 @@ module _ {g : Graph} {source : ℕ} (ground : Ground g source) {P : ℕ} where
   unite-kept s t w v h fits k =
       let x = workerAt (s .workers) w .output in
       let y = workerAt (s .workers) v .output in
-      let met = effective (not (isEmpty x) && not (isEmpty y)) (withWorkers s (uniteOutputs (s .workers) w v)) t k in
+      let met = effective (not (isEmpty x) && not (isEmpty y)) (replaceWorkers s (uniteOutputs (s .workers) w v)) t k in
       rw (← met .1) (workers-kept s (uniteOutputs (s .workers) w v) h (crew-unite (s .workers) w v (h .crew-sound) (fits .0) (fits .1) (fits .2)))
 
 -- a close of an empty united bag: the search is finished, and all else stays
@@ -125,10 +125,10 @@ pub record Next (g : Graph) (source P : ℕ) (r q : Run) : Type 0 where
 
 module _ {g : Graph} {source : ℕ} (ground : Ground g source) {P : ℕ} (some-worker : 1 ≤ P) where
   -- an effective close
-  closed-after : (s : State) → Sound g source P s → allIdle (s .workers) ≡ true → suc (cost P g (closed s (united (s .workers)))) ≤ cost P g s
-      → (b : Bool) → isEmpty (united (s .workers)) ≡ b → After g source P s (closed s (united (s .workers)))
+  closed-after : (s : State) → Sound g source P s → allIdle (s .workers) ≡ true → suc (cost P g (closed s (unitedOutputs (s .workers)))) ≤ cost P g s
+      → (b : Bool) → isEmpty (unitedOutputs (s .workers)) ≡ b → After g source P s (closed s (unitedOutputs (s .workers)))
   closed-after s h idle less true e =
-      let bag = united (s .workers) in
+      let bag = unitedOutputs (s .workers) in
       let over : State = record { labels = s .labels; workers = s .workers; layer = s .layer; finished = true } in
       let same : closed s bag ≡ over = closed-empty s bag e in
       let sound : Sound g source P over = record { labels-sound = h .labels-sound; crew-sound = h .crew-sound } in
@@ -141,7 +141,7 @@ module _ {g : Graph} {source : ℕ} (ground : Ground g source) {P : ℕ} (some-w
   closed-after s h idle less false e = record {
     sound = close-sound some-worker h idle e;
     opens = λ other. close-opens some-worker h idle e;
-    ended = λ f. absurd (true≢false (sym f ∙ closed-filled s (united (s .workers)) e));
+    ended = λ f. absurd (true≢false (sym f ∙ closed-filled s (unitedOutputs (s .workers)) e));
     cheaper = less;
   }
 
@@ -152,7 +152,7 @@ module _ {g : Graph} {source : ℕ} (ground : Ground g source) {P : ℕ} (some-w
   act-after s t (Split w v) h live fits k = kept-after (split-kept ground s t w v h fits k) live (split-cost ground w v h (fits .0) (fits .1) (fits .2) k)
   act-after s t (Unite w v) h live fits k = kept-after (unite-kept ground s t w v h fits k) live (unite-cost ground w v h (fits .0) (fits .1) (fits .2) k)
   act-after s t Close h live fits k =
-      let met = effective (allIdle (s .workers)) (closed s (united (s .workers))) t k in
+      let met = effective (allIdle (s .workers)) (closed s (unitedOutputs (s .workers))) t k in
       rw (← met .1) (closed-after s h (met .0) (rw (met .1) (close-cost ground some-worker h live k)) _ refl)
   act-after s t Malformed h live fits k = absurd (Option·none-ne-some t k)
 

@@ -20,10 +20,10 @@ module _ {g : Graph} {source : ℕ} (ground : Ground g source) where
   walk-below (onward {u = u} w e) = rw (e .leads) at (target-below u (e .place) (e .there))
 
 -- the last link of a path of d + 1 links, and the path before it
-pub record LastLink (g : Graph) (source v d : ℕ) : Type 0 where
+pub record LastEdge (g : Graph) (source v d : ℕ) : Type 0 where
   pub before : ℕ
   pub walk : Walk g source before d
-  pub link : Joins g before v
+  pub edge : Joins g before v
 
 module _ {g : Graph} {source : ℕ} where
   -- a path of no link ends at the source
@@ -32,9 +32,9 @@ module _ {g : Graph} {source : ℕ} where
   walk-zero (onward w j) e = absurd (omega arith)
 
   -- a path of one link more than d has a last link
-  pub walk-last : {v k : ℕ} → Walk g source v k → (d : ℕ) → k ≡ suc d → LastLink g source v d
+  pub walk-last : {v k : ℕ} → Walk g source v k → (d : ℕ) → k ≡ suc d → LastEdge g source v d
   walk-last stay d e = absurd (omega arith)
-  walk-last (onward {u = u} {k = k} w j) d e = let same : k ≡ d = omega arith in record { before = u; walk = rw same at w; link = j }
+  walk-last (onward {u = u} {k = k} w j) d e = let same : k ≡ d = omega arith in record { before = u; walk = rw same at w; edge = j }
 
   -- a distance is the only one
   pub distance-unique : {v k j : ℕ} → Distance g source v k → Distance g source v j → k ≡ j

@@ -6,12 +6,12 @@ use mathlib.Core.Option.{Option, none, some}
 use Prim.Native.Nat.{ℕ, _+_, _*_}
 use lib.Dec.{leb, ltb}
 use lib.ListN.{length, replicate}
-use Rattle.numbers.specs.Numbers.{unset, success, repeated, unreached, badSource, shortList, unfinished}
+use Rattle.numbers.specs.Numbers.{unset, success, badSource, shortList, unfinished}
 use Rattle.numbers.specs.Refusals.{Refusal, _gives_, first}
 use Rattle.lists.specs.Lists.{overlay, elem}
 use Rattle.graph.specs.Graph.{offsetsOf, targetsOf}
 use Rattle.graph.specs.File.{vertexCount, edgeCount, graphOf}
-use Rattle.graph.specs.Read.{headerRefusals, scanRefusals, chainRefusals, rowsShort}
+use Rattle.graph.specs.Read.{headerRefusals, scanRefusals, chainRefusals, rowsShort, clearsMarks}
 use Rattle.schedule.specs.Check.{scheduleRefusals}
 use Rattle.model.specs.Play.{Run, play}
 
@@ -88,7 +88,7 @@ wordOf (some x) = x
 
 -- "with 5 and 6 the first m marks become 0. Every call that gets past 6 leaves the first m marks 0"
 unfoldable pub sweepsMarks : ℕ → Bool
-sweepsMarks number = plays number || elem number (repeated ∷ unreached ∷ [])
+sweepsMarks number = plays number || clearsMarks number
 
 -- the lists at exit: "A refusal .. other than 10 and 21 changes nothing, but with 5 and 6 the first m marks become 0. Every call that gets past 6 ..
 -- writes rows. A run also leaves the first P × n + 1 places of each node list 0, with 0 and 21 alike. On 21 distances and parents are those

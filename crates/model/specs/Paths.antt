@@ -47,7 +47,7 @@ isSet (some x) = true
 
 -- p is nearer than v by one link: "has a link to its device and a distance one less"
 pub record Nearer (g : Graph) (x : Labels) (p v : ℕ) : Type 0 where
-  pub link : Joins g p v
+  pub edge : Joins g p v
   pub depth : ℕ
   pub here : distanceOf x p ≡ some depth
   pub there : distanceOf x v ≡ some (suc depth)

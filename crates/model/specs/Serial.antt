@@ -12,13 +12,13 @@ use Rattle.model.specs.Paths.{edgeTarget, Labels, distanceOf, isSet}
 use Rattle.model.specs.Table.{mark, name}
 
 -- one occurrence of a link: the vertex it starts at and its place in that row
-pub record Link : Type 0 where
+pub record EdgeAt : Type 0 where
   pub start : ℕ
   pub place : ℕ
 
 -- all links that start at u
-unfoldable pub linksFrom : Graph → ℕ → List Link
-linksFrom g u = map (λ (i : ℕ). record { start = u; place = i }) (numbersFrom 0 (length (edges g u)))
+unfoldable pub edgesFrom : Graph → ℕ → List EdgeAt
+edgesFrom g u = map (λ (i : ℕ). record { start = u; place = i }) (numbersFrom 0 (length (edges g u)))
 
 -- whether this is distance d
 unfoldable pub isAt : ℕ → Option ℕ → Bool
@@ -26,11 +26,11 @@ isAt d none = false
 isAt d (some k) = eqb k d
 
 -- "every link starting at a device of distance d once", by this run's own distances
-unfoldable pub layerLinks : Graph → ℕ → Labels → List Link
-layerLinks g d x = flatten (map (λ (u : ℕ). cond (isAt d (distanceOf x u)) (linksFrom g u) []) (numbersFrom 0 (length g)))
+unfoldable pub layerEdges : Graph → ℕ → Labels → List EdgeAt
+layerEdges g d x = flatten (map (λ (u : ℕ). cond (isAt d (distanceOf x u)) (edgesFrom g u) []) (numbersFrom 0 (length g)))
 
 -- "each link whose target is unset gives it distance d + 1 and its start as parent, before the next link is looked at"
-unfoldable pub follow : Graph → ℕ → Labels → Link → Labels
+unfoldable pub follow : Graph → ℕ → Labels → EdgeAt → Labels
 follow g d x e =
     let t = edgeTarget g (e .start) (e .place) in
     cond (isSet (distanceOf x t)) x (name (e .start) t (mark d t x))
@@ -44,5 +44,5 @@ anyAt d (x ∷ xs) = isAt d x || anyAt d xs
 -- keep a device's links together": from distance d and the labels x on, it ends with the labels y
 pub data Serial (g : Graph) : ℕ → Labels → Labels → Type 0 where
   ended : {d : ℕ} {x : Labels} → anyAt d (x .distances) ≡ false → Serial g d x x
-  layer : {d : ℕ} {x y : Labels} → anyAt d (x .distances) ≡ true → (order : List Link) → List·Permᴰ order (layerLinks g d x)
+  layer : {d : ℕ} {x y : Labels} → anyAt d (x .distances) ≡ true → (order : List EdgeAt) → List·Permᴰ order (layerEdges g d x)
       → Serial g (suc d) (foldl (follow g d) x order) y → Serial g d x y

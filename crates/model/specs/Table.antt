@@ -29,7 +29,7 @@ unfoldable pub name : ℕ → ℕ → Labels → Labels
 name u t x = record { distances = x .distances; parents = set (x .parents) t (some u) }
 
 -- "worker w moves once. Free: it takes from its input bag, if that isn't empty. Holding u: it looks at the next target t .. With t in hand,
--- three more moves: mark, name, stow (insert t into its output bag, pass on)": the worker and the labels after it
+-- three more moves: mark .., name .., stow (insert t into its output bag, pass on)": the worker and the labels after it
 unfoldable pub move : Graph → ℕ → Labels → Bag → Bag → Phase → Option (Worker × Labels)
 move g d x input output free = cond (isEmpty input) none (some (workerWith (takeRest input) output (holdAt g (takenNumber input) 0), x))
 move g d x input output (holding u i) = some (workerWith input output (look g x u i), x)
@@ -37,14 +37,18 @@ move g d x input output (inHand u i t) = some (workerWith input output (marked u
 move g d x input output (marked u i t) = some (workerWith input output (named u i t), name u t x)
 move g d x input output (named u i t) = some (workerWith input (bagInsert t output) (holdAt g u (suc i)), x)
 
+-- the same of a worker
+abbrev pub moveOf : Graph → ℕ → Labels → Worker → Option (Worker × Labels)
+moveOf g d x w = move g d x (w .input) (w .output) (w .phase)
+
 -- a move put into the state
-unfoldable pub moved : State → ℕ → Option (Worker × Labels) → Option State
-moved s w none = none
-moved s w (some m) = some (record { labels = m .1; workers = set (s .workers) w (m .0); layer = s .layer; finished = s .finished })
+unfoldable pub afterMove : State → ℕ → Option (Worker × Labels) → Option State
+afterMove s w none = none
+afterMove s w (some m) = some (record { labels = m .1; workers = set (s .workers) w (m .0); layer = s .layer; finished = s .finished })
 
 -- the state with other workers
-abbrev pub withWorkers : State → List Worker → State
-withWorkers s workers = record { labels = s .labels; workers = workers; layer = s .layer; finished = s .finished }
+abbrev pub replaceWorkers : State → List Worker → State
+replaceWorkers s workers = record { labels = s .labels; workers = workers; layer = s .layer; finished = s .finished }
 
 -- "w .. gets the second bag of a split of v's input bag"
 unfoldable pub splitInputs : List Worker → ℕ → ℕ → List Worker
@@ -74,8 +78,8 @@ allIdle [] = true
 allIdle (w ∷ workers) = isFree (w .phase) && isEmpty (w .input) && allIdle workers
 
 -- "output bags 0 to P - 1 are united in that order into worker 0's input bag"
-unfoldable pub united : List Worker → Bag
-united workers = foldl bagUnion (workerAt workers 0 .input) (map (λ (w : Worker). w .output) workers)
+unfoldable pub unitedOutputs : List Worker → Bag
+unitedOutputs workers = foldl bagUnion (workerAt workers 0 .input) (map (λ (w : Worker). w .output) workers)
 
 -- a worker whose output bag has been united
 abbrev pub handedIn : Worker → Worker
@@ -89,12 +93,12 @@ closed s bag = cond (isEmpty bag)
 
 -- the table: "An event whose condition isn't met changes nothing. The others are effective."
 unfoldable pub act : Graph → State → Event → Option State
-act g s (Work w) = let x = workerAt (s .workers) w in moved s w (move g (s .layer) (s .labels) (x .input) (x .output) (x .phase))
+act g s (Work w) = afterMove s w (moveOf g (s .layer) (s .labels) (workerAt (s .workers) w))
 act g s (Split w v) =
     let met = isEmpty (workerAt (s .workers) w .input) && atLeastTwo (workerAt (s .workers) v .input) in
-    cond met (some (withWorkers s (splitInputs (s .workers) w v))) none
+    cond met (some (replaceWorkers s (splitInputs (s .workers) w v))) none
 act g s (Unite w v) =
     let met = not (isEmpty (workerAt (s .workers) w .output)) && not (isEmpty (workerAt (s .workers) v .output)) in
-    cond met (some (withWorkers s (uniteOutputs (s .workers) w v))) none
-act g s Close = cond (allIdle (s .workers)) (some (closed s (united (s .workers)))) none
+    cond met (some (replaceWorkers s (uniteOutputs (s .workers) w v))) none
+act g s Close = cond (allIdle (s .workers)) (some (closed s (unitedOutputs (s .workers)))) none
 act g s Malformed = none

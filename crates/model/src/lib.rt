@@ -1,2 +1,2 @@
 // No code: what a hop map is, what playing a schedule means (specs/), and demand 3 as a theorem of it
-// (proofs/). The crate `search` has the code that equals it.
+// (proofs/). The search's code will be proved equal to it.

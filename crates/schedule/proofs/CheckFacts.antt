@@ -38,17 +38,17 @@ module _ (bytes : List ℕ) (P : ℕ) where
 
     module _ (few : ltb maxWorkers P ≡ false) where
       -- a sheet over length
-      pub long-sheet : maxEvents < length bytes → badSchedule ≡ scheduleNumber bytes P
+      pub long-schedule : maxEvents < length bytes → badSchedule ≡ scheduleNumber bytes P
       unfolding scheduleNumber scheduleRefusals first
-      long-sheet h = rw (ne-eqb P 0 some, few, lt-ltb maxEvents (length bytes) h)
+      long-schedule h = rw (ne-eqb P 0 some, few, lt-ltb maxEvents (length bytes) h)
 
       module _ (short : length bytes ≤ maxEvents) where
         -- a stray byte
-        pub stray-sheet : anyStray P bytes ≡ true → badSchedule ≡ scheduleNumber bytes P
+        pub stray-schedule : anyStray P bytes ≡ true → badSchedule ≡ scheduleNumber bytes P
         unfolding scheduleNumber scheduleRefusals first
-        stray-sheet h = rw (ne-eqb P 0 some, few, le-ltb maxEvents (length bytes) short, h)
+        stray-schedule h = rw (ne-eqb P 0 some, few, le-ltb maxEvents (length bytes) short, h)
 
         -- nothing to refuse
-        pub taken-sheet : anyStray P bytes ≡ false → success ≡ scheduleNumber bytes P
+        pub taken-schedule : anyStray P bytes ≡ false → success ≡ scheduleNumber bytes P
         unfolding scheduleNumber scheduleRefusals first
-        taken-sheet h = rw (ne-eqb P 0 some, few, le-ltb maxEvents (length bytes) short, h)
+        taken-schedule h = rw (ne-eqb P 0 some, few, le-ltb maxEvents (length bytes) short, h)

@@ -2,7 +2,7 @@
 use borrow.Author.Needs.{needs}
 use mathlib.Core.Logic.{⊎-elim}
 use mathlib.Core.Path.{sym, _∙_}
-use Rattle.schedule.proofs.CheckFacts.{no-workers, many-workers, long-sheet, stray-sheet, taken-sheet}
+use Rattle.schedule.proofs.CheckFacts.{no-workers, many-workers, long-schedule, stray-schedule, taken-schedule}
 use Rattle.schedule.proofs.schedule_number.Statement.{statement}
 use Rattle.schedule.proofs.schedule_number.Tie as tie
 
@@ -22,8 +22,8 @@ returns-2 c =
     let few = c .before in
     let a = few .before .before .before .args in
     ⊎-elim
-    (λ w. long-sheet (a .bytes .now) (a .workers) (few .before .if1 .left) (few .if2 .left) (w .taken))
-    (λ w. stray-sheet (a .bytes .now) (a .workers) (few .before .if1 .left) (few .if2 .left) (w .0 .left) (sym (w .1 .ensures) ∙ w .2 .taken))
+    (λ w. long-schedule (a .bytes .now) (a .workers) (few .before .if1 .left) (few .if2 .left) (w .taken))
+    (λ w. stray-schedule (a .bytes .now) (a .workers) (few .before .if1 .left) (few .if2 .left) (w .0 .left) (sym (w .1 .ensures) ∙ w .2 .taken))
     (c .if3 .came)
 
 returns-3 : tie.Need-returns-3
@@ -31,7 +31,7 @@ returns-3 c =
     let short = c .before .before in
     let few = short .before in
     let a = few .before .before .before .args in
-    taken-sheet (a .bytes .now) (a .workers) (few .before .if1 .left) (few .if2 .left) (short .if3 .left)
+    taken-schedule (a .bytes .now) (a .workers) (few .before .if1 .left) (few .if2 .left) (short .if3 .left)
     (sym (c .before .any-stray .ensures) ∙ c .if4 .left)
 
 pub schedule-number-spec : {M : Type 1} → statement M
