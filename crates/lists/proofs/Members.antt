@@ -9,7 +9,7 @@ use native.Mathlib.Omega.{arith}
 use Rattle.lists.specs.Lists.{numbersFrom, elem}
 use Rattle.lists.proofs.Tests.{elem-first, elem-later, elem-cases, elem-range, range-elem}
 
--- the elements that pass a test, in order
+-- the elements that pass a test, in order (the library's `filter` goes by a decision, and its membership is truncated)
 pub keep : {A : Type 0} → (A → Bool) → List A → List A
 keep p [] = []
 keep p (a ∷ l) = cond (p a) (a ∷ keep p l) (keep p l)

@@ -13,7 +13,7 @@ use borrow.Author.Tests.{ltb-false, leb-false, eqb-true, eqb-false, not-false, l
 use Rattle.lists.specs.Lists.{numbersFrom, sumsFrom, elem, repeats, lacks, reaches, fallsFrom}
 use Rattle.lists.proofs.Or.{or-none, none-or, or-second, not-so}
 
--- a test counts no more than what is at least 1 where it holds
+-- a test, counted as 0 or 1, is at most n, if n is at least 1 where it holds
 pub test-within : (b : Bool) (n : ℕ) → (b ≡ true → 1 ≤ n) → cond b 1 0 ≤ n
 test-within true n h = h refl
 test-within false n h = omega arith

@@ -127,6 +127,7 @@ module _ {g : Graph} {source : ℕ} (ground : Ground g source) where
   -- every sound state fits
   pub sound-fits : {P : ℕ} {s : State} → P ≤ 8 → Sound g source P s → Fitting g P s
   sound-fits {s = s} p h = record {
+    all-there = h .crew-sound .crew;
     all-held = held-most h;
     inputs-low = λ q w. no-slot-above (workerAt (s .workers) w .input) (h .crew-sound .each w .input-shaped) (omega (arith, held-small h p q w));
     outputs-low = λ q w. no-slot-above (workerAt (s .workers) w .output) (h .crew-sound .each w .output-shaped) (omega (arith, held-small h p q w));

@@ -1,4 +1,4 @@
--- Demand 3, proved of playing any schedule: Theorem.antt, by way of the files before it.
+-- Demand 3, proved of playing any schedule (Theorem.antt, by way of the files before it), and what follows of a whole call (Calls.antt).
 pub mod Bench
 pub mod Alone
 pub mod Counts

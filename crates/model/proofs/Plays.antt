@@ -25,7 +25,7 @@ unfolding afterMove
 moved-crew s t w none e = absurd (Option·none-ne-some t e)
 moved-crew s t w (some m) e = rw (← Option·some-injective _ t e) (length-set (s .workers) w (m .0))
 
--- an effective event leaves as many workers as the state that the table says has
+-- an effective event leaves as many workers as the table's state has
 crew-after : (s t u : State) (b : Bool) → length (u .workers) ≡ length (s .workers) → cond b (some u) none ≡ some t
     → length (t .workers) ≡ length (s .workers)
 crew-after s t u b same e = rw (← effective b u t e .1) same
@@ -47,7 +47,7 @@ unfolding uniteOutputs
 unite-crew workers w v = simp length-set
 
 -- any event
-pub act-crew : (g : Graph) (s t : State) (e : Event) → act g s e ≡ some t → length (t .workers) ≡ length (s .workers)
+act-crew : (g : Graph) (s t : State) (e : Event) → act g s e ≡ some t → length (t .workers) ≡ length (s .workers)
 unfolding act
 act-crew g s t (Work w) h = moved-crew s t w _ h
 act-crew g s t (Split w v) h =
@@ -106,7 +106,7 @@ play-crew g r [] = refl
 play-crew g r (byte ∷ schedule) = play-crew g (step g r byte) schedule ∙ step-crew g r byte _ refl
 
 -- once finished, nothing is used
-pub play-finished : (g : Graph) (r : Run) (schedule : List ℕ) → r .state .finished ≡ true → playFrom g r schedule ≡ r
+play-finished : (g : Graph) (r : Run) (schedule : List ℕ) → r .state .finished ≡ true → playFrom g r schedule ≡ r
 unfolding playFrom
 play-finished g r [] e = refl
 play-finished g r (byte ∷ schedule) e = ap (λ (q : Run). foldl (step g) q schedule) (step-over g r byte e) ∙ play-finished g r schedule e

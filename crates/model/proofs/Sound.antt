@@ -95,14 +95,20 @@ module _ (g : Graph) (source : ℕ) where
     pub sound : WorkerSound d b y
     -- what is set stays as it is set
     pub keeps : (v k : ℕ) → distanceOf a v ≡ some k → distanceOf b v ≡ some k
+    -- nothing is put into an input bag
     pub inputs-fall : (v : ℕ) → copies v (y .input) ≤ copies v (x .input)
+    -- what is put into the output bag is set for the next layer
     pub outputs-set : (v : ℕ) → 1 ≤ copies v (y .output) → (1 ≤ copies v (x .output)) ⊎ (distanceOf b v ≡ some (suc d))
+    -- an edge that was still to be looked at still is, or its target is set
     pub edges-kept : (u i : ℕ) → i < length (edges g u)
         → copies u (x .input) + atOf u i (x .phase) ≤ copies u (y .input) + atOf u i (y .phase) + setOne (distanceOf b (edgeTarget g u i))
+    -- no copy in the output bag or in hand is lost
     pub copies-kept : (v : ℕ) → copies v (x .output) + handOf v (x .phase) ≤ copies v (y .output) + handOf v (y .phase)
     -- a vertex that becomes set is in this worker's hand
     pub newly-set : (v : ℕ) → distanceOf a v ≡ none → isSet (distanceOf b v) ≡ true → (1 ≤ handOf v (y .phase)) × (1 ≤ namingOf v (y .phase))
     -- a copy is added only of a vertex that is unset, to a hand
     pub copies-added : (v : ℕ) → (copies v (y .output) + handOf v (y .phase) ≡ copies v (x .output) + handOf v (x .phase))
         ⊎ ((distanceOf a v ≡ none) × (copies v (y .output) ≡ copies v (x .output)))
-    pub parents-kept : (v : ℕ) → namingOf v (x .phase) + setOne (parentOf a v) ≤ namingOf v (y .phase) + setOne (parentOf b v) ⊎ (1 ≤ setOne (parentOf b v))
+    -- a vertex with a parent, or about to be named, stays so
+    pub parents-kept : (v : ℕ) → namingOf v (x .phase) + setOne (parentOf a v) ≤ namingOf v (y .phase) + setOne (parentOf b v)
+        ⊎ (1 ≤ setOne (parentOf b v))

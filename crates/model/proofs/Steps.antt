@@ -17,7 +17,7 @@ use Rattle.schedule.specs.Events.{eventOf, within}
 use Rattle.schedule.proofs.Bytes.{Staffed, byte-staffed}
 use Rattle.model.specs.Paths.{Distance, Labels, Certified}
 use Rattle.model.specs.State.{Worker, idleWorker, State, workerAt}
-use Rattle.model.specs.Table.{move, afterMove, replaceWorkers, splitInputs, uniteOutputs, allIdle, unitedOutputs, closed, act, moveOf}
+use Rattle.model.specs.Table.{afterMove, replaceWorkers, splitInputs, uniteOutputs, allIdle, unitedOutputs, closed, act, moveOf}
 use Rattle.model.specs.Play.{Run, tally, step, eventBound}
 use Rattle.model.specs.Demand.{LayerOpen}
 use Rattle.model.proofs.Sound.{Ground, CrewSound, Sound}

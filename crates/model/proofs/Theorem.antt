@@ -2,13 +2,13 @@
 use mathlib.Core.Path.{_≡_, refl, sym, _∙_, ap, subst}
 use mathlib.Core.Bool.{Bool, true, false, true≢false}
 use mathlib.Core.List.{List, [], _∷_}
-use Prim.Native.Nat.{ℕ, zero, suc, _≤_, _<_}
+use Prim.Native.Nat.{ℕ, suc, _≤_, _<_}
 use native.Mathlib.Omega.{arith}
 use lib.ListN.{length, getD, take}
 use Rattle.graph.specs.Graph.{Graph}
-use Rattle.schedule.specs.Events.{eventOf, within}
 use Rattle.schedule.specs.Check.{anyStray}
 use Rattle.schedule.proofs.Bytes.{stray-none}
+use Rattle.schedule.proofs.Schedules.{stray-take, stray-at}
 use Rattle.model.specs.State.{State, openingState}
 use Rattle.model.specs.Play.{Run, step, playFrom, play, stateAt, rounds, eventBound}
 use Rattle.model.specs.Demand.{Accepted, LayerOpen, Demand}
@@ -22,19 +22,6 @@ use Rattle.model.proofs.Fits.{sound-fits}
 use Rattle.model.proofs.Opening.{opening-sound, opening-opens}
 use Rattle.model.proofs.SerialRun.{serial-run}
 use Rattle.model.proofs.Costs.{opening-cost}
-
--- the first bytes of a well-formed schedule are well-formed
-stray-take : (P k : ℕ) (schedule : List ℕ) → anyStray P schedule ≡ false → anyStray P (take k schedule) ≡ false
-unfolding anyStray
-stray-take P zero schedule h = refl
-stray-take P (suc k) [] h = refl
-stray-take P (suc k) (byte ∷ schedule) h = rw (stray-none P byte schedule h .0) (stray-take P k schedule (stray-none P byte schedule h .1))
-
--- each of its bytes is
-stray-at : (P k : ℕ) (schedule : List ℕ) → anyStray P schedule ≡ false → k < length schedule → within P (eventOf (getD schedule k 0)) ≡ true
-stray-at P k [] h below = absurd (omega arith)
-stray-at P zero (byte ∷ schedule) h below = stray-none P byte schedule h .0
-stray-at P (suc k) (byte ∷ schedule) h below = stray-at P k schedule (stray-none P byte schedule h .1) (omega arith)
 
 module _ {g : Graph} {source : ℕ} (ground : Ground g source) {P : ℕ} (some-worker : 1 ≤ P) where
   -- a good run stays good
@@ -54,7 +41,7 @@ module _ {g : Graph} {source : ℕ} (ground : Ground g source) {P : ℕ} (some-w
   unfolding play
   run-good schedule h = play-good _ schedule h opening-good
 
--- what document 01 accepts is ground to stand on
+-- of what document 01 accepts, that targets and source are vertices
 accepted-ground : {g : Graph} {source P : ℕ} {schedule : List ℕ} → Accepted g source P schedule → Ground g source
 accepted-ground a = record { below = a .targets-below; starts = a .source-below }
 
@@ -96,7 +83,7 @@ module _ {g : Graph} {source P : ℕ} {schedule : List ℕ} (a : Accepted g sour
   rounds-run live =
       let opening : Run = record { state = openingState (length g) source P; used = 0; effective = 0 } in
       let crew = opening-sound (accepted-ground a) P (a .some-worker) .crew-sound .crew in
-      omega (arith, rounds-count g P opening schedule (a .some-worker) (a .few-workers) crew live)
+      omega (arith, rounds-count g (a .some-worker) (a .few-workers) opening schedule crew live)
 
   -- that many rounds finish
   finishes : (f : Bool) → play g source P schedule .state .finished ≡ f → eventBound g P ≤ rounds P schedule → f ≡ true
@@ -117,6 +104,6 @@ module _ {g : Graph} {source P : ℕ} {schedule : List ℕ} (a : Accepted g sour
     link-by-link = λ f. serial-run (good-run .ended f) (sound-fits (accepted-ground a) (a .few-workers) (good-run .sound) .distances-below);
     counted = told-all g source P schedule .counted;
     used-spent = told-all g source P schedule .spent;
-    used-finished = λ f. let last = told-all g source P schedule .ended f in (last .place, last .used, last .before, last .after);
+    used-finished = told-all g source P schedule .ended;
     fitting = λ k. sound-fits (accepted-ground a) (a .few-workers) (good-at k .sound);
   }

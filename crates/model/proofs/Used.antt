@@ -14,6 +14,7 @@ use Rattle.schedule.specs.Events.{eventOf}
 use Rattle.model.specs.State.{openingState}
 use Rattle.model.specs.Table.{act}
 use Rattle.model.specs.Play.{Run, tally, step, playFrom, play, stateAt, metAt}
+use Rattle.model.specs.Demand.{Finisher}
 use Rattle.model.proofs.Plays.{tally-counts, step-over, step-on, play-append}
 
 module _ (g : Graph) (source P : ℕ) (schedule : List ℕ) where
@@ -22,18 +23,11 @@ module _ (g : Graph) (source P : ℕ) (schedule : List ℕ) where
   unfolding play playFrom
   play-more k below = rw (take-suc schedule k 0 below) (play-append g _ (take k schedule) (getD schedule k 0 ∷ []))
 
-  -- the byte that finished the search
-  pub record Finisher (r : Run) : Type 0 where
-    pub place : ℕ
-    pub used : r .used ≡ suc place
-    pub before : stateAt g source P schedule place .finished ≡ false
-    pub after : stateAt g source P schedule (suc place) .finished ≡ true
-
   -- what is told of a run after k bytes
   pub record Told (k : ℕ) (r : Run) : Type 0 where
     pub counted : r .effective ≡ sumOf (metAt g source P schedule) (numbersFrom 0 (r .used))
     pub spent : r .state .finished ≡ false → r .used ≡ k
-    pub ended : r .state .finished ≡ true → Finisher r
+    pub ended : r .state .finished ≡ true → Finisher g source P schedule (r .used)
 
   -- at the start
   told-start : Told 0 (play g source P [])
@@ -57,7 +51,7 @@ module _ (g : Graph) (source P : ℕ) (schedule : List ℕ) where
       record {
         counted = rw used (omega (arith, met, t .counted, ap (λ (u : ℕ). sumOf (metAt g source P schedule) (numbersFrom 0 u)) (t .spent e), rw (zero-add k) at (sum-last (metAt g source P schedule) 0 k)));
         spent = λ f. used;
-        ended = λ f. record { place = k; used = used; before = e; after = f };
+        ended = λ f. record { place = k; last-used = used; before = e; after = f };
       }
 
   -- after every number of bytes

@@ -17,7 +17,7 @@ pub data Expected : Type 0 where
   answers : (number used effective layer : ℕ) (distances parents : List ℕ) → Expected
   sizes : (first second : ℕ) → Expected
 
--- lists that are long enough for every case, with 7 in every place
+-- lists that are long enough for every case that gets as far as 20, with 7 in every place
 unfoldable pub lentFor : ℕ → Lent
 lentFor places =
     let nine : List ℕ = replicate 9 7 in

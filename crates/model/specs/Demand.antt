@@ -25,7 +25,8 @@ pub record Accepted (g : Graph) (source P : ℕ) (schedule : List ℕ) : Type 0 
   pub few-workers : P ≤ maxWorkers
   pub formed : anyStray P schedule ≡ false
 
--- "it then holds what worker 0's input bag holds, and all other bags are empty"; "exactly the vertices of that distance, each 1 to P times"
+-- A layer that opens: "it then holds what worker 0's input bag holds, and all other bags are empty". It holds exactly the vertices of its distance,
+-- each 1 to P times, and all workers are free.
 pub record LayerOpen (g : Graph) (source P : ℕ) (s : State) : Type 0 where
   pub every : (v : ℕ) → Distance g source v (s .layer) → 1 ≤ copies v (workerAt (s .workers) 0 .input)
   pub no-other : (v : ℕ) → 1 ≤ copies v (workerAt (s .workers) 0 .input) → Distance g source v (s .layer)
@@ -38,8 +39,9 @@ pub record LayerOpen (g : Graph) (source P : ℕ) (s : State) : Type 0 where
 unfoldable pub held : List Worker → ℕ
 held workers = sumOf (λ (w : Worker). size (w .input) + size (w .output)) workers
 
--- what holds at every moment, for the engine's lists: no more numbers than nodes, 16 slots are enough, distances and parents are below n
+-- what holds at every moment, for the engine's lists: P workers, no more numbers than nodes, 16 slots are enough, distances and parents are below n
 pub record Fitting (g : Graph) (P : ℕ) (s : State) : Type 0 where
+  pub all-there : length (s .workers) ≡ P
   pub all-held : held (s .workers) ≤ P * length g
   pub inputs-low : length g ≤ maxVertices → (w k : ℕ) → slotCount ≤ k → isGap (getD (workerAt (s .workers) w .input) k gap) ≡ true
   pub outputs-low : length g ≤ maxVertices → (w k : ℕ) → slotCount ≤ k → isGap (getD (workerAt (s .workers) w .output) k gap) ≡ true
@@ -47,11 +49,18 @@ pub record Fitting (g : Graph) (P : ℕ) (s : State) : Type 0 where
   pub parents-below : (v p : ℕ) → parentOf (s .labels) v ≡ some p → p < length g
   pub layer-below : s .layer < length g
 
+-- "the finishing event": the byte at this place, which is the last one used
+pub record Finisher (g : Graph) (source P : ℕ) (schedule : List ℕ) (used : ℕ) : Type 0 where
+  pub place : ℕ
+  pub last-used : used ≡ suc place
+  pub before : stateAt g source P schedule place .finished ≡ false
+  pub after : stateAt g source P schedule (suc place) .finished ≡ true
+
 -- the claim, over the places 0, 1, .. of the one schedule: the state after k bytes is `stateAt g source P schedule k`
 pub record Demand (g : Graph) (source P : ℕ) (schedule : List ℕ) : Type 0 where
-  -- (a) "each layer opens with exactly the vertices of that distance": at the start ..
+  -- (a) "A layer opens at the start ..
   pub first-layer : LayerOpen g source P (stateAt g source P schedule 0)
-  -- .. "and at each close that raises d"
+  -- .. and at each close that raises d"
   pub each-layer : (k : ℕ) → k < length schedule → (stateAt g source P schedule (suc k) .layer ≡ stateAt g source P schedule k .layer → ⊥)
       → LayerOpen g source P (stateAt g source P schedule (suc k))
   -- (b) "Written distances are final at any moment of a run."
@@ -60,17 +69,16 @@ pub record Demand (g : Graph) (source P : ℕ) (schedule : List ℕ) : Type 0 wh
   pub bounded : play g source P schedule .effective ≤ eventBound g P
   -- .. and below it while the search isn't finished
   pub below : play g source P schedule .state .finished ≡ false → play g source P schedule .effective < eventBound g P
-  -- (d) "that many full rounds always finish"
+  -- (d) as many full rounds as the bound, wherever they stand, finish the search
   pub enough-rounds : eventBound g P ≤ rounds P schedule → play g source P schedule .state .finished ≡ true
-  -- (e) "Distances of a finished search are those of the graph"
+  -- (e) the result of a finished search is right
   pub right-result : play g source P schedule .state .finished ≡ true → Right g source (play g source P schedule .state .labels)
-  -- (f) "every finished run equals a link-by-link run in some order of each layer's links"
+  -- (f) a finished run ends as a link-by-link run does, with some order of each layer's links
   pub link-by-link : play g source P schedule .state .finished ≡ true → Serial g 0 (openingLabels (length g) source) (play g source P schedule .state .labels)
   -- "The effective events reported are the number of used bytes whose condition, by that table, was met at their turn."
   pub counted : play g source P schedule .effective ≡ sumOf (metAt g source P schedule) (numbersFrom 0 (play g source P schedule .used))
   -- "Events used are the bytes up to and with the finishing one, with 21 all of them."
   pub used-spent : play g source P schedule .state .finished ≡ false → play g source P schedule .used ≡ length schedule
-  pub used-finished : play g source P schedule .state .finished ≡ true → (k : ℕ) × (play g source P schedule .used ≡ suc k)
-      × (stateAt g source P schedule k .finished ≡ false) × (stateAt g source P schedule (suc k) .finished ≡ true)
+  pub used-finished : play g source P schedule .state .finished ≡ true → Finisher g source P schedule (play g source P schedule .used)
   -- for the engine's lists, at every moment
   pub fitting : (k : ℕ) → Fitting g P (stateAt g source P schedule k)

@@ -35,7 +35,7 @@ follow g d x e =
     let t = edgeTarget g (e .start) (e .place) in
     cond (isSet (distanceOf x t)) x (name (e .start) t (mark d t x))
 
--- whether some device has distance d
+-- whether some vertex has distance d
 unfoldable pub anyAt : ℕ → List (Option ℕ) → Bool
 anyAt d [] = false
 anyAt d (x ∷ xs) = isAt d x || anyAt d xs

@@ -51,3 +51,15 @@ first-split (false gives number ∷ a) b p e = first-split a b (p .1) e
 -- where neither part refuses anything, nothing is refused
 pub first-join : (a b : List Refusal) → Positive a → first a ≡ 0 → first b ≡ 0 → first (a ++ b) ≡ 0
 first-join a b p e f = rw (first-append a b p e) f
+
+-- every number of the list is below a limit
+abbrev pub Under : ℕ → List Refusal → Type 0
+Under limit [] = Unit {0}
+Under limit (test gives number ∷ rest) = (number < limit) × Under limit rest
+
+-- so the list's number is, too
+pub first-under : (limit : ℕ) → 0 < limit → (l : List Refusal) → Under limit l → first l < limit
+unfolding first
+first-under limit p [] h = p
+first-under limit p (true gives number ∷ rest) h = h .0
+first-under limit p (false gives number ∷ rest) h = first-under limit p rest (h .1)

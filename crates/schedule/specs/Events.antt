@@ -6,7 +6,7 @@ use Rattle.schedule.specs.declared.Event.{Event}
 use Rattle.schedule.specs.declared.Event.the-variants.{Work, Split, Unite, Close, Malformed}
 
 -- "Kind 0, v = 0: worker w moves once." "Kind 3, w = v = 0: close." "Kind 1, w and v different: w .. gets the second bag of a split of v's".
--- "Kind 2, w and v different: w's output bag is united into v's".
+-- "Kind 2, w and v different: w's output bag is united into v's". A byte has no other kinds.
 unfoldable pub formOf : ℕ → ℕ → ℕ → Event
 formOf kind w v =
     cond (eqb kind 0) (cond (eqb v 0) (Work w) Malformed)

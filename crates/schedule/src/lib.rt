@@ -13,6 +13,7 @@ pub enum Event {
     Malformed,
 }
 
+// A byte as a number: a cast by itself, so that its users have none to prove.
 fn wide(byte: u8) -> usize
     ensures { λ r. ⌜ r ≡ byte ⌝ }
 {
@@ -68,7 +69,7 @@ pub fn fits(event: Event, workers: usize) -> bool
     }
 }
 
-// Whether some byte is not of document 01's forms.
+// Whether some byte is not of document 01's forms, or names a worker that isn't there.
 fn any_stray(bytes: &[u8], workers: usize) -> bool
     ensures { λ r. ⌜ r ≡ anyStray workers (now (bytes .entry)) ⌝ }
 {
