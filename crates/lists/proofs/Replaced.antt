@@ -4,7 +4,7 @@ use native.Mathlib.Omega.{arith}
 use mathlib.Core.Path.{_≡_, refl, sym, _∙_}
 use mathlib.Core.Bool.{Bool, true, false}
 use mathlib.Core.List.{List, [], _∷_, map}
-use lib.ListN.{length, getD, drop, set}
+use lib.ListN.{length, getD, drop, set, length-set}
 use lib.Dec.{eqb}
 use lib.Seq.{set-set, set-comm, getD-set-same, getD-set-other}
 use borrow.Author.Tests.{eqb-true, eqb-false}
@@ -23,6 +23,10 @@ map-agree f g d (x ∷ l) same = rw (same 0 (omega arith), map-agree f g d l (λ
 -- two elements replaced, and replaced again
 pub set-two-again : {A : Type 0} (l : List A) (i j : ℕ) (a b c d : A) → (i ≡ j → ⊥) → set (set (set (set l i a) j b) i c) j d ≡ set (set l i c) j d
 set-two-again l i j a b c d h = rw (set-comm l i j a b h, set-set (set l j b) i a c, ← set-comm l i j c b h, set-set (set l i c) j b d)
+
+-- a list with two elements replaced is as long as it was
+pub length-two : {A : Type 0} (l : List A) (i j : ℕ) (x y : A) → length (set (set l i x) j y) ≡ length l
+length-two l i j x y = length-set (set l i x) j y ∙ length-set l i x
 
 -- from an element that is replaced on
 pub drop-set : {A : Type 0} (l : List A) (i : ℕ) (y : A) → i < length l → drop i (set l i y) ≡ y ∷ drop (suc i) l

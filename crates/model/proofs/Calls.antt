@@ -148,7 +148,7 @@ module _ (file : List ℕ) (source P : ℕ) (schedule : List ℕ) (lent : Lent) 
         };
       }
   unfolding outcomeOfSearch answerBy lentAfter sweepsMarks runOf
-  call-played e = rw e
+  call-played e = rw e refl
 
   -- with any other number: zeros beside it, and every list as it was, but that with 5 and 6 the first m marks are 0
   pub call-refused : plays number ≡ false → outcomeOfSearch file source P schedule lent ≡ record {
@@ -165,7 +165,7 @@ module _ (file : List ℕ) (source P : ℕ) (schedule : List ℕ) (lent : Lent) 
     };
   }
   unfolding outcomeOfSearch answerBy lentAfter
-  call-refused e = rw (e, sweeps-others number e)
+  call-refused e = rw (e, sweeps-others number e) refl
 
   -- no call reports more effective events than the bound, whatever its number
   pub call-effective : outcomeOfSearch file source P schedule lent .answer .effective ≤ eventBound (graphOf file) P

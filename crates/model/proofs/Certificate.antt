@@ -7,11 +7,11 @@ use native.Mathlib.Decide.{ℕ-discrete}
 use native.Mathlib.Omega.{arith}
 use lib.ListN.{length}
 use lib.Seq.{ext-getD}
-use Rattle.lists.proofs.Parts.{place-below}
 use Rattle.graph.specs.Graph.{Graph}
 use Rattle.model.specs.Paths.{Joins, Walk, stay, onward, Labels, distanceOf, parentOf, Right, Certified}
 use Rattle.model.proofs.Sound.{Ground}
-use Rattle.model.proofs.Walks.{walk-below, distance-unique}
+use Rattle.model.proofs.Walks.{walk-below, walk-more, distance-unique}
+use Rattle.model.proofs.LabelFacts.{label-below}
 
 -- v is set, to no more than k
 record SetWithin (x : Labels) (v k : ℕ) : Type 0 where
@@ -20,10 +20,6 @@ record SetWithin (x : Labels) (v k : ℕ) : Type 0 where
   most : value ≤ k
 
 module _ {g : Graph} {source : ℕ} {x : Labels} (c : Certified g source x) where
-  -- a vertex that has a distance is one of the graph's
-  pub vertex-below : (v k : ℕ) → distanceOf x v ≡ some k → v < length g
-  vertex-below v k e = rw (c .distances-all) at (place-below (x .distances) v e)
-
   -- a parent of distance d and a link from it
   pub record Preceded (v d : ℕ) : Type 0 where
     pub parent : ℕ
@@ -33,12 +29,12 @@ module _ {g : Graph} {source : ℕ} {x : Labels} (c : Certified g source x) wher
 
   -- a vertex other than the source has no distance 0
   pub not-zero : (v : ℕ) → (v ≡ source → ⊥) → (k : ℕ) → distanceOf x v ≡ some k → 0 < k
-  not-zero v other k e = let r = c .parent v (vertex-below v k e) other (rw e) in omega (arith, mem-unique e (r .2 .there))
+  not-zero v other k e = let r = c .parent v (label-below x v (c .distances-all) e) other (rw e) in omega (arith, mem-unique e (r .2 .there))
 
   -- a vertex of distance d + 1 has such a parent
   pub parent-before : (v d : ℕ) → distanceOf x v ≡ some (suc d) → Preceded v d
   parent-before v d e =
-      let r = c .parent v (vertex-below v (suc d) e) (λ q. omega (arith, mem-unique (c .source) (rw q at e))) (rw e) in
+      let r = c .parent v (label-below x v (c .distances-all) e) (λ q. omega (arith, mem-unique (c .source) (rw q at e))) (rw e) in
       let depth : r .2 .depth ≡ d = omega (arith, mem-unique (r .2 .there) e) in
       record { parent = r .0; named = r .1; near = rw depth at (r .2 .here); edge = r .2 .edge }
 
@@ -65,7 +61,7 @@ module _ {g : Graph} {source : ℕ} (ground : Ground g source) where
       source = let s = right-within stay in s .is ∙ ap {B = Option ℕ} some (omega (arith, s .most));
       own-parent = r .own-parent;
       onward = λ u d i h e there.
-          let t = right-within (onward (r .shortest u d h e .walk) (record { place = i; there = there; leads = refl })) in (t .value, t .is, t .most);
+          let t = right-within (walk-more (r .shortest u d h e .walk) i there) in (t .value, t .is, t .most);
       no-parent = r .no-parent;
       parent = r .parent;
     }
@@ -94,6 +90,7 @@ module _ {g : Graph} {source : ℕ} (ground : Ground g source) where
       parent = c .parent;
     }
 
+module _ {g : Graph} {source : ℕ} where
   -- right distances are the only ones
   pub right-unique : {x y : Labels} → Right g source x → Right g source y → x .distances ≡ y .distances
   right-unique {x} {y} a b =

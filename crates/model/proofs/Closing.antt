@@ -13,18 +13,17 @@ use borrow.Author.Tests.{ltb-true, ltb-false, leb-true, leb-false}
 use Rattle.graph.specs.Graph.{Graph, edges}
 use Rattle.pennant.specs.Bag.{emptyBag, takenNumber, isEmpty}
 use Rattle.pennant.specs.Held.{only, copies}
-use Rattle.pennant.proofs.Laws.{empty-weighs, taken-held, shaped-empty}
-use Rattle.model.specs.Paths.{edgeTarget, Walk, stay, onward, Distance, Labels, distanceOf, parentOf, isSet, Certified}
+use Rattle.pennant.proofs.Laws.{empty-bag, empty-weighs, taken-held, shaped-empty}
+use Rattle.model.specs.Paths.{edgeTarget, Walk, stay, Distance, Labels, distanceOf, parentOf, isSet, Certified}
 use Rattle.model.specs.State.{free, Worker, workerWith, idleWorker, State, workerAt}
 use Rattle.model.specs.Table.{allIdle, unitedOutputs, handedIn, closed}
 use Rattle.model.specs.Demand.{LayerOpen}
 use Rattle.model.proofs.Counts.{setOne, handOf, namingOf, atOf, outputs}
 use Rattle.model.proofs.Sound.{LabelsSound, CrewSound, Sound}
-use Rattle.model.proofs.Walks.{walk-last, distance-source}
+use Rattle.model.proofs.Walks.{walk-more, walk-last, distance-source}
 use Rattle.model.proofs.LabelFacts.{not-both, set-value, one-set, label-is}
-use Rattle.model.proofs.Workers.{empty-bag, weigh-unions, shaped-unions, Idle, idle-each}
-use Rattle.model.proofs.Fresh.{no-copies, none-busy}
-use Rattle.model.proofs.Fresh.{LayerBag, SpareCrew, fresh-sound, fresh-opens}
+use Rattle.model.proofs.Workers.{weigh-unions, shaped-unions, Idle, idle-each}
+use Rattle.model.proofs.Fresh.{no-copies, none-busy, LayerBag, SpareCrew, fresh-sound, fresh-opens}
 
 -- The end of a layer: sound labels, and a sound crew that is idle.
 module _ {g : Graph} {source P d : ℕ} {x : Labels} {workers : List Worker}
@@ -35,7 +34,7 @@ module _ {g : Graph} {source P d : ℕ} {x : Labels} {workers : List Worker}
 
   -- a path through a vertex that is set
   through : (u k i : ℕ) → distanceOf x u ≡ some k → i < length (edges g u) → Walk g source (edgeTarget g u i) (suc k)
-  through u k i e there = onward (l .written u k e .walk) (record { place = i; there = there; leads = refl })
+  through u k i e there = walk-more (l .written u k e .walk) i there
 
   -- every edge of a vertex up to this layer leads to a vertex that is set
   target-set : (u k i : ℕ) → distanceOf x u ≡ some k → k ≤ d → i < length (edges g u) → isSet (distanceOf x (edgeTarget g u i)) ≡ true

@@ -24,19 +24,22 @@ abbrev pub filledOne : Bag → ℕ
 filledOne s = cond (not (isEmpty s)) 1 0
 
 -- an input bag: every split makes one more bag that isn't empty
-abbrev pub inputCost : Graph → Bag → ℕ
+abbrev inputCost : Graph → Bag → ℕ
 inputCost g s = weigh (itemCost g) s - filledOne s
 
 -- an output bag: every union makes one fewer
 abbrev pub outputCost : Graph → Bag → ℕ
 outputCost g s = weigh (itemCost g) s + filledOne s
 
--- a phase: the edges left to look at; for a target in hand that is set, its mark, name and stow and what it then costs in a bag. A target in
--- hand that is unset is paid for with the unset vertices
+-- a target in hand, if it is set: its mark, name and stow and what it then costs in a bag. One that is unset is paid for with the unset vertices
+abbrev pub handCost : Graph → Labels → ℕ → ℕ
+handCost g x t = cond (isSet (distanceOf x t)) (6 + degree g t) 0
+
+-- a phase: the edges left to look at, and the target in hand
 abbrev pub phaseCost : Graph → Labels → Phase → ℕ
 phaseCost g x free = 0
 phaseCost g x (holding u i) = degree g u - i
-phaseCost g x (inHand u i t) = (degree g u - suc i) + cond (isSet (distanceOf x t)) (6 + degree g t) 0
+phaseCost g x (inHand u i t) = (degree g u - suc i) + handCost g x t
 phaseCost g x (marked u i t) = (degree g u - suc i) + (5 + degree g t)
 phaseCost g x (named u i t) = (degree g u - suc i) + (4 + degree g t)
 

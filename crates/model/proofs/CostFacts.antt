@@ -1,24 +1,25 @@
--- Facts for the cost of a state: sums with elements replaced, and what bags, phases and labels cost.
+-- Facts for the cost of a state: what bags, phases and labels cost.
 use mathlib.Core.Path.{_≡_, refl}
 use mathlib.Core.Bool.{Bool, true, false, cond, not}
 use mathlib.Core.List.{List, [], _∷_, flatten}
 use mathlib.Core.Option.{Option, none, some}
 use Prim.Native.Nat.{ℕ, zero, suc, _+_, _*_, _-_, _≤_, _<_}
 use native.Mathlib.Omega.{arith}
-use lib.ListN.{length, getD, set, replicate, length-append, length-replicate, getD-replicate}
+use lib.ListN.{length, getD, set, replicate, length-append, length-replicate}
 use borrow.Author.Tests.{not-true}
+use Rattle.lists.proofs.Parts.{getD-repeated}
 use Rattle.lists.proofs.Replaced.{set-cases}
 use Rattle.lists.proofs.Tests.{test-within}
 use Rattle.lists.proofs.Sums.{sum-most}
 use Rattle.graph.specs.Graph.{Graph, edges}
 use Rattle.pennant.specs.Bag.{Bag, emptyBag, isEmpty}
 use Rattle.pennant.specs.Held.{items, weigh, one, size}
-use Rattle.pennant.proofs.Laws.{weigh-empty, weigh-items, filled-size}
+use Rattle.pennant.proofs.Laws.{weigh-empty, weigh-items, empty-bag, filled-size}
 use Rattle.model.specs.Paths.{edgeTarget, Labels, distanceOf, isSet}
 use Rattle.model.specs.State.{Phase, free, holding, inHand, marked, named}
 use Rattle.model.specs.Table.{holdAt, look, mark}
-use Rattle.model.proofs.Workers.{hold-cases, empty-bag}
-use Rattle.model.proofs.Cost.{degree, itemCost, filledOne, outputCost, phaseCost, unsetCost, unsetsCost}
+use Rattle.model.proofs.Workers.{hold-cases}
+use Rattle.model.proofs.Cost.{degree, itemCost, filledOne, outputCost, handCost, phaseCost, unsetCost, unsetsCost}
 
 -- Bags.
 
@@ -39,18 +40,13 @@ filled-weighs g s = test-within (not (isEmpty s)) (weigh (itemCost g) s) (λ e. 
 
 -- the empty bag costs nothing as an output bag
 pub empty-output : (g : Graph) → outputCost g emptyBag ≡ 0
-empty-output g =
-    rw empty-bag (omega (arith, weigh-empty (itemCost g)))
+empty-output g = rw empty-bag (omega (arith, weigh-empty (itemCost g)))
 
 -- Phases.
 
 module _ (g : Graph) where
-  -- what a vertex in hand costs the worker
-  abbrev pub handCost : Labels → ℕ → ℕ
-  handCost x v = cond (isSet (distanceOf x v)) (6 + degree g v) 0
-
   -- a phase costs no more than with other labels, and k, if no vertex in hand does
-  pub phase-most : (a b : Labels) (k : ℕ) → ((v : ℕ) → handCost b v ≤ handCost a v + k) → (p : Phase) → phaseCost g b p ≤ phaseCost g a p + k
+  pub phase-most : (a b : Labels) (k : ℕ) → ((v : ℕ) → handCost g b v ≤ handCost g a v + k) → (p : Phase) → phaseCost g b p ≤ phaseCost g a p + k
   phase-most a b k most free = omega arith
   phase-most a b k most (holding u i) = omega arith
   phase-most a b k most (inHand u i t) = omega (arith, most t)
@@ -94,7 +90,7 @@ pub unsets-source : (g : Graph) (source : ℕ) → source < length g
 unsets-source g source h =
     let unset : List (Option ℕ) = replicate (length g) none in
     let long = length-replicate {A = Option ℕ} (length g) none in
-    let here = getD-replicate {A = Option ℕ} (length g) source none none h in
+    let here = getD-repeated {A = Option ℕ} (length g) source none in
     let one-set = rw here at (unsets-set unset g source 0 long (omega arith)) in
     omega (arith, unsets-all g)
 

@@ -1,33 +1,32 @@
 -- The potential falls with every effective event, and the opening state costs no more than the bound.
 use mathlib.Core.Path.{_≡_, refl, ap}
-use mathlib.Core.Bool.{Bool, true, false, cond, not, and-eq-true-iff}
+use mathlib.Core.Bool.{Bool, true, false, cond}
 use mathlib.Core.List.{List, [], _∷_, map}
-use mathlib.Core.Option.{Option, none, some, Option·none-ne-some, Option·some-injective}
+use mathlib.Core.Option.{Option, none, some}
 use Prim.Native.Nat.{ℕ, suc, _+_, _*_, _≤_, _<_}
 use native.Mathlib.Nat.{le-refl, mul-le-mul-right}
 use native.Mathlib.Omega.{arith}
 use lib.ListN.{length, set, replicate, length-replicate}
 use lib.Seq.{getD-set-same}
-use borrow.Author.Tests.{not-true}
 use Rattle.lists.specs.Lists.{sumOf}
 use Rattle.lists.proofs.Sums.{sum-set, sum-two, sum-most, sum-first}
 use Rattle.lists.proofs.Parts.{getD-repeated}
 use Rattle.graph.specs.Graph.{Graph, edges, targetsOf}
-use Rattle.pennant.specs.Bag.{Bag, emptyBag, bagInsert, bagUnion, splitFirst, splitSecond, takeRest, takenNumber, isEmpty, atLeastTwo}
+use Rattle.pennant.specs.Bag.{Bag, emptyBag, bagInsert, bagUnion, splitFirst, splitSecond, takeRest, takenNumber, isEmpty}
 use Rattle.pennant.specs.Held.{weigh, Shaped}
 use Rattle.pennant.proofs.Laws.{weigh-empty, weigh-insert, weigh-union, weigh-split, weigh-rest, empty-weighs, split-filled}
 use Rattle.schedule.specs.declared.Event.the-variants.{Work, Split, Unite, Close}
 use Rattle.model.specs.Paths.{Labels, distanceOf}
 use Rattle.model.specs.State.{Phase, free, holding, inHand, marked, named, Worker, workerWith, idleWorker}
 use Rattle.model.specs.State.{State, workerAt, openingLabels, openingState}
-use Rattle.model.specs.Table.{holdAt, mark, name, move, afterMove, replaceWorkers, splitInputs, uniteOutputs, allIdle, unitedOutputs, handedIn, closed, act, moveOf}
+use Rattle.model.specs.Table.{holdAt, mark, name, move}
+use Rattle.model.specs.Table.{replaceWorkers, splitInputs, uniteOutputs, allIdle, unitedOutputs, handedIn, closed, act}
 use Rattle.model.specs.Play.{eventBound}
 use Rattle.model.proofs.Sound.{Ground, PhaseSound, Sound}
 use Rattle.model.proofs.Walks.{target-below}
-use Rattle.model.proofs.Workers.{effective, weigh-unions, idle-first}
-use Rattle.model.proofs.Cost.{degree, itemCost, phaseCost, workerCost, unsetCost, unsetsCost, cost}
-use Rattle.model.proofs.CostFacts.{filled-one, filled-most, filled-weighs}
-use Rattle.model.proofs.CostFacts.{empty-output, handCost, phase-most, hold-cost, look-cost}
+use Rattle.model.proofs.Workers.{weigh-unions, idle-first, work-met, split-met, unite-met, close-met}
+use Rattle.model.proofs.Cost.{degree, itemCost, handCost, phaseCost, workerCost, unsetCost, unsetsCost, cost}
+use Rattle.model.proofs.CostFacts.{filled-one, filled-most, filled-weighs, empty-output, phase-most, hold-cost, look-cost}
 use Rattle.model.proofs.CostFacts.{unsets-set, unsets-source, mark-hand}
 
 module _ (g : Graph) where
@@ -103,7 +102,13 @@ module _ (g : Graph) where
   handed-cost x [] e = refl
   handed-cost x (w ∷ workers) e =
       let idle = idle-first w workers e in
-      omega (arith, empty-output g, ap (phaseCost g x) (idle .0 .phase-free), empty-weighs (itemCost g) (w .input) (idle .0 .input-empty), handed-cost x workers (idle .1))
+      omega (
+        arith,
+        empty-output g,
+        ap (phaseCost g x) (idle .0 .phase-free),
+        empty-weighs (itemCost g) (w .input) (idle .0 .input-empty),
+        handed-cost x workers (idle .1),
+      )
 
   -- what is united costs less in one input bag than in the output bags
   united-cost : (x : Labels) (workers : List Worker) → 1 ≤ length workers → allIdle workers ≡ true → isEmpty (unitedOutputs workers) ≡ false
@@ -135,6 +140,66 @@ module _ (g : Graph) where
       let all = sum-first (workerCost g x) idleWorker (replicate P idleWorker) first (rw length-replicate p) (λ i. rw (getD-repeated P i idleWorker) idle) in
       omega (arith, all, weigh-insert (itemCost g) source emptyBag, weigh-empty (itemCost g), empty-output g)
 
+module _ {g : Graph} {source : ℕ} where
+  -- two workers replaced by two that cost less together
+  two-cost : {P : ℕ} {s : State} (w v : ℕ) (x y : Worker) → Sound g source P s → w < P → v < P → (w ≡ v → ⊥)
+      → suc (workerCost g (s .labels) y + workerCost g (s .labels) x)
+      ≤ workerCost g (s .labels) (workerAt (s .workers) v) + workerCost g (s .labels) (workerAt (s .workers) w)
+      → suc (cost P g (replaceWorkers s (set (set (s .workers) v y) w x))) ≤ cost P g s
+  unfolding cost
+  two-cost {P} {s} w v x y h k l apart less =
+      let crew = h .crew-sound .crew in
+      omega (arith, sum-two (workerCost g (s .labels)) (s .workers) w v x y idleWorker (rw crew k) (rw crew l) apart)
+
+  -- an effective split lowers the cost: one more input bag isn't empty
+  pub split-cost : {P : ℕ} {s t : State} (w v : ℕ) → Sound g source P s → w < P → v < P → (w ≡ v → ⊥) → act g s (Split w v) ≡ some t
+      → suc (cost P g t) ≤ cost P g s
+  unfolding splitInputs
+  split-cost {s = s} w v h k l apart e =
+      let bag = workerAt (s .workers) v .input in
+      let met = split-met g s w v e in
+      let filled = split-filled bag (h .crew-sound .each v .input-shaped) (met .1) in
+      rw (← met .2) (two-cost w v _ _ h k l apart (omega (
+        arith,
+        weigh-split (itemCost g) bag,
+        filled-most bag,
+        filled-one (splitFirst bag) (filled .0),
+        filled-weighs g (splitFirst bag),
+        filled-one (splitSecond bag) (filled .1),
+        filled-weighs g (splitSecond bag),
+      )))
+
+  -- an effective union lowers the cost: one output bag fewer isn't empty
+  pub unite-cost : {P : ℕ} {s t : State} (w v : ℕ) → Sound g source P s → w < P → v < P → (w ≡ v → ⊥) → act g s (Unite w v) ≡ some t
+      → suc (cost P g t) ≤ cost P g s
+  unfolding uniteOutputs
+  unite-cost {s = s} w v h k l apart e =
+      let from = workerAt (s .workers) w .output in
+      let into = workerAt (s .workers) v .output in
+      let met = unite-met g s w v e in
+      rw (← met .2) (two-cost w v _ _ h k l apart (omega (
+        arith,
+        weigh-union (itemCost g) into from,
+        filled-most (bagUnion into from),
+        empty-output g,
+        filled-one from (met .0),
+        filled-one into (met .1),
+      )))
+
+  -- an effective close lowers the cost: the finishing one by itself, any other one by what it unites
+  pub close-cost : {P : ℕ} {s t : State} → 1 ≤ P → Sound g source P s → s .finished ≡ false → act g s Close ≡ some t → suc (cost P g t) ≤ cost P g s
+  unfolding closed cost
+  close-cost {P} {s} p h f e =
+      let met = close-met g s e in
+      rw (← met .1) (go (isEmpty bag) refl (met .0))
+    where
+      bag : Bag
+      bag = unitedOutputs (s .workers)
+
+      go : (b : Bool) → isEmpty bag ≡ b → allIdle (s .workers) ≡ true → suc (cost P g (closed s bag)) ≤ cost P g s
+      go true q idle = rw (q, f) (omega arith)
+      go false q idle = rw (q, f) (omega (arith, united-cost g (s .labels) (s .workers) (rw (h .crew-sound .crew) p) idle q))
+
 module _ {g : Graph} {source : ℕ} (ground : Ground g source) where
   -- every move of a worker lowers the cost
   move-lowers : (d : ℕ) (a : Labels) (input output : Bag) (p : Phase) → length (a .distances) ≡ length g → Shaped input → PhaseSound g source d a p
@@ -149,82 +214,18 @@ module _ {g : Graph} {source : ℕ} (ground : Ground g source) where
 
   -- an effective work lowers the cost
   pub work-cost : {P : ℕ} {s t : State} (w : ℕ) → Sound g source P s → w < P → act g s (Work w) ≡ some t → suc (cost P g t) ≤ cost P g s
-  unfolding act afterMove cost
-  work-cost {P} {s} {t} w h below e = go (moveOf g (s .layer) (s .labels) x) lowers e
-    where
-      x : Worker
-      x = workerAt (s .workers) w
-
-      lowers : MoveLowers g (s .labels) x (moveOf g (s .layer) (s .labels) x)
-      lowers =
-          let sound = h .crew-sound .each w in
-          move-lowers (s .layer) (s .labels) (x .input) (x .output) (x .phase) (h .labels-sound .distances-all) (sound .input-shaped) (sound .phase-sound)
-
-      go : (m : Option (Worker × Labels)) → MoveLowers g (s .labels) x m → afterMove s w m ≡ some t → suc (cost P g t) ≤ cost P g s
-      go none low e = absurd (Option·none-ne-some t e)
-      go (some m) low e =
-          let crew = h .crew-sound .crew in
-          let worker-less = sum-set (workerCost g (m .1)) (s .workers) w (m .0) idleWorker (rw crew below) in
-          let labels-less = rw crew at (low .labels-fall (s .workers)) in
-          rw (← Option·some-injective _ t e) (omega (arith, low .worker-falls))
-
-  -- two workers replaced by two that cost less together
-  two-cost : {P : ℕ} {s : State} (w v : ℕ) (x y : Worker) → Sound g source P s → w < P → v < P → (w ≡ v → ⊥)
-      → suc (workerCost g (s .labels) y + workerCost g (s .labels) x)
-      ≤ workerCost g (s .labels) (workerAt (s .workers) v) + workerCost g (s .labels) (workerAt (s .workers) w)
-      → suc (cost P g (replaceWorkers s (set (set (s .workers) v y) w x))) ≤ cost P g s
   unfolding cost
-  two-cost {P} {s} w v x y h k l apart less =
+  work-cost {s = s} w h below e =
+      let x = workerAt (s .workers) w in
+      let sound = h .crew-sound .each w in
       let crew = h .crew-sound .crew in
-      omega (arith, sum-two (workerCost g (s .labels)) (s .workers) w v x y idleWorker (rw crew k) (rw crew l) apart)
-
-  -- an effective split lowers the cost: one more input bag isn't empty
-  pub split-cost : {P : ℕ} {s t : State} (w v : ℕ) → Sound g source P s → w < P → v < P → (w ≡ v → ⊥) → act g s (Split w v) ≡ some t
-      → suc (cost P g t) ≤ cost P g s
-  unfolding act splitInputs
-  split-cost {P} {s} {t} w v h k l apart e =
-      let bag = workerAt (s .workers) v .input in
-      let met = effective _ (replaceWorkers s (splitInputs (s .workers) w v)) t e in
-      let both = and-eq-true-iff (isEmpty (workerAt (s .workers) w .input)) (atLeastTwo bag) .0 (met .0) in
-      let filled = split-filled bag (h .crew-sound .each v .input-shaped) (both .1) in
-      rw (← met .1) (two-cost w v _ _ h k l apart (omega (
-        arith,
-        weigh-split (itemCost g) bag,
-        filled-most bag,
-        filled-one (splitFirst bag) (filled .0),
-        filled-weighs g (splitFirst bag),
-        filled-one (splitSecond bag) (filled .1),
-        filled-weighs g (splitSecond bag),
-      )))
-
-  -- an effective union lowers the cost: one output bag fewer isn't empty
-  pub unite-cost : {P : ℕ} {s t : State} (w v : ℕ) → Sound g source P s → w < P → v < P → (w ≡ v → ⊥) → act g s (Unite w v) ≡ some t
-      → suc (cost P g t) ≤ cost P g s
-  unfolding act uniteOutputs
-  unite-cost {P} {s} {t} w v h k l apart e =
-      let from = workerAt (s .workers) w .output in
-      let into = workerAt (s .workers) v .output in
-      let met = effective _ (replaceWorkers s (uniteOutputs (s .workers) w v)) t e in
-      let both = and-eq-true-iff (not (isEmpty from)) (not (isEmpty into)) .0 (met .0) in
-      rw (← met .1) (two-cost w v _ _ h k l apart (omega (
-        arith,
-        weigh-union (itemCost g) into from,
-        filled-most (bagUnion into from),
-        empty-output g,
-        filled-one from (not-true (isEmpty from) (both .0)),
-        filled-one into (not-true (isEmpty into) (both .1)),
-      )))
-
-  -- an effective close lowers the cost: the finishing one by itself, any other one by what it unites
-  pub close-cost : {P : ℕ} {s t : State} → 1 ≤ P → Sound g source P s → s .finished ≡ false → act g s Close ≡ some t → suc (cost P g t) ≤ cost P g s
-  unfolding act closed cost
-  close-cost {P} {s} {t} p h f e =
-      let met = effective (allIdle (s .workers)) (closed s (unitedOutputs (s .workers))) t e in
-      rw (← met .1) (go (isEmpty (unitedOutputs (s .workers))) refl (met .0))
-    where
-      go : (b : Bool) → isEmpty (unitedOutputs (s .workers)) ≡ b → allIdle (s .workers) ≡ true → suc (cost P g (closed s (unitedOutputs (s .workers)))) ≤ cost P g s
-      go true q idle = rw (q, f) (omega arith)
-      go false q idle = rw (q, f) (omega (arith, united-cost g (s .labels) (s .workers) (rw (h .crew-sound .crew) p) idle q))
+      let met = work-met g s w e in
+      let m = met .0 in
+      let low : Lowers g (s .labels) (m .1) x (m .0) = rw (met .1) at (move-lowers (s .layer) (s .labels) (x .input) (x .output) (x .phase)
+      (h .labels-sound .distances-all) (sound .input-shaped) (sound .phase-sound)) in
+      let worker-less = sum-set (workerCost g (m .1)) (s .workers) w (m .0) idleWorker (rw crew below) in
+      let labels-less = rw crew at (low .labels-fall (s .workers)) in
+      rw (← met .2) (omega (arith, low .worker-falls))
 
   -- the opening state costs no more than the bound
   pub opening-cost : (P : ℕ) → 1 ≤ P → cost P g (openingState (length g) source P) ≤ eventBound g P

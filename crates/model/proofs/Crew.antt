@@ -7,16 +7,15 @@ use mathlib.Core.Logic.{inl, inr}
 use Prim.Native.Nat.{ℕ, suc, _+_, _≤_, _<_}
 use native.Mathlib.Decide.{decLe}
 use native.Mathlib.Omega.{arith}
-use lib.Dec.{eqb}
 use lib.ListN.{length, set, length-set}
 use Rattle.lists.specs.Lists.{sumOf}
 use Rattle.lists.proofs.Sums.{sum-set, sum-at, sum-two, sum-within}
-use Rattle.lists.proofs.Tests.{test-within}
-use Rattle.lists.proofs.Replaced.{each-set}
+use Rattle.lists.proofs.Replaced.{length-two, each-set}
 use Rattle.graph.specs.Graph.{Graph, edges}
 use Rattle.pennant.specs.Bag.{Bag, emptyBag, bagUnion, splitFirst, splitSecond, isEmpty}
 use Rattle.pennant.specs.Held.{only, copies, Shaped}
-use Rattle.pennant.proofs.Laws.{weigh-empty, weigh-union, weigh-split, empty-weighs, shaped-empty, shaped-union, shaped-first, shaped-second}
+use Rattle.pennant.proofs.Laws.{weigh-empty, weigh-union, weigh-split, only-few, empty-weighs}
+use Rattle.pennant.proofs.Laws.{shaped-empty, shaped-union, shaped-first, shaped-second}
 use Rattle.model.specs.Paths.{edgeTarget, Distance, Labels, distanceOf, parentOf, isSet}
 use Rattle.model.specs.State.{Phase, free, holding, inHand, marked, named, Worker, workerWith, idleWorker, workerAt}
 use Rattle.model.specs.Table.{splitInputs, uniteOutputs}
@@ -28,9 +27,9 @@ use Rattle.model.proofs.Sound.{PhaseSound, WorkerSound, CrewSound, Move
 hand-few : (v : ℕ) (phase : Phase) → handOf v phase ≤ 1
 hand-few v free = omega arith
 hand-few v (holding u i) = omega arith
-hand-few v (inHand u i t) = test-within (eqb t v) 1 (λ e. omega arith)
-hand-few v (marked u i t) = test-within (eqb t v) 1 (λ e. omega arith)
-hand-few v (named u i t) = test-within (eqb t v) 1 (λ e. omega arith)
+hand-few v (inHand u i t) = only-few v t
+hand-few v (marked u i t) = only-few v t
+hand-few v (named u i t) = only-few v t
 
 module _ {g : Graph} {source : ℕ} where
   module _ {P d : ℕ} {a b : Labels} (workers : List Worker) (w : ℕ) (y : Worker)
@@ -165,7 +164,7 @@ module _ {g : Graph} {source : ℕ} where
         let same : (f : Worker → ℕ) → f y + f z ≡ f (workerAt workers w) + f (workerAt workers v)
         → sumOf f (set (set workers v z) w y) ≡ sumOf f workers
         = λ f e. omega (arith, sum-two f workers w v y z idleWorker (rw (c .crew) h) (rw (c .crew) k) apart) in
-        crew-same workers (set (set workers v z) w y) c (length-set (set workers v z) w y ∙ length-set workers v z)
+        crew-same workers (set (set workers v z) w y) c (length-two workers v w z y)
         (each-set (WorkerSound g source d x) (set workers v z) w y idleWorker (refilled w p q p-shaped q-shaped)
         (each-set (WorkerSound g source d x) workers v z idleWorker (refilled v s t s-shaped t-shaped) (c .each)))
         (λ u. same (λ (j : Worker). copies u (j .input)) (same-input u))

@@ -12,7 +12,6 @@ use borrow.Author.Tests.{ne-eqb}
 use Rattle.numbers.specs.Numbers.{maxVertices}
 use Rattle.lists.specs.Lists.{numbersFrom, sumOf}
 use Rattle.lists.proofs.Sums.{sum-append, sum-at, sum-both, sum-within}
-use Rattle.lists.proofs.Parts.{place-below}
 use Rattle.lists.proofs.Tests.{length-range, getD-range}
 use Rattle.graph.specs.Graph.{Graph}
 use Rattle.pennant.specs.Bag.{slotCount}
@@ -24,6 +23,7 @@ use Rattle.model.specs.Demand.{held, Fitting}
 use Rattle.model.proofs.Counts.{inputs, outputs}
 use Rattle.model.proofs.Sound.{Ground, Sound}
 use Rattle.model.proofs.Walks.{walk-below, distance-unique}
+use Rattle.model.proofs.LabelFacts.{label-below}
 
 -- a number below n is counted among 0, 1, .., n - 1
 range-counts : (x n : ℕ) → x < n → 1 ≤ sumOf (λ (v : ℕ). only v x) (numbersFrom 0 n)
@@ -122,7 +122,7 @@ module _ {g : Graph} {source : ℕ} (ground : Ground g source) where
         go (yes same) = omega (arith, ground .starts, mem-unique (h .labels-sound .own-parent) (rw same at e))
         go (no apart) =
             let n = h .labels-sound .parent v p apart e in
-            rw (h .labels-sound .distances-all) at (place-below (s .labels .distances) p (n .here))
+            label-below (s .labels) p (h .labels-sound .distances-all) (n .here)
 
   -- every sound state fits
   pub sound-fits : {P : ℕ} {s : State} → P ≤ 8 → Sound g source P s → Fitting g P s

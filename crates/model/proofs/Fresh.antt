@@ -13,12 +13,12 @@ use Rattle.lists.proofs.Replaced.{each-set}
 use Rattle.graph.specs.Graph.{Graph}
 use Rattle.pennant.specs.Bag.{Bag, emptyBag, isEmpty}
 use Rattle.pennant.specs.Held.{only, copies, Shaped}
-use Rattle.pennant.proofs.Laws.{empty-weighs, shaped-empty}
+use Rattle.pennant.proofs.Laws.{empty-bag, empty-weighs, shaped-empty}
 use Rattle.model.specs.Paths.{Distance, Labels, distanceOf, parentOf, isSet}
 use Rattle.model.specs.State.{Phase, free, Worker, workerWith, idleWorker, workerAt}
 use Rattle.model.specs.Demand.{LayerOpen}
 use Rattle.model.proofs.Counts.{setOne, handOf, inputs}
-use Rattle.model.proofs.Workers.{empty-bag, Idle, idle-worker}
+use Rattle.model.proofs.Workers.{Idle, idle-worker}
 use Rattle.model.proofs.Sound.{WorkerSound, CrewSound}
 
 -- Workers.

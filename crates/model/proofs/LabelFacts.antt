@@ -1,25 +1,28 @@
--- Facts about one label, set or unset, and about sound labels: one that is set is the vertex's distance.
+-- Facts about one label, set or unset: whose it is; and about sound labels: one that is set is the vertex's distance.
 use mathlib.Core.Path.{_≡_, refl, sym}
 use mathlib.Core.Bool.{true, false, true≢false}
 use mathlib.Core.Option.{Option, none, some}
-use Prim.Native.Nat.{ℕ, _≤_}
+use Prim.Native.Nat.{ℕ, _≤_, _<_}
 use native.Mathlib.Omega.{arith}
+use lib.ListN.{length}
+use Rattle.lists.proofs.Parts.{place-below}
 use Rattle.graph.specs.Graph.{Graph}
 use Rattle.model.specs.Paths.{Distance, Labels, distanceOf, isSet}
 use Rattle.model.proofs.Counts.{setOne}
 use Rattle.model.proofs.Sound.{LabelsSound}
 use Rattle.model.proofs.Walks.{distance-unique}
 
--- a label that is set has a value
+-- the value that a label is set to
 pub record Value (l : Option ℕ) : Type 0 where
   pub value : ℕ
   pub is : l ≡ some value
 
+-- a label that is set has one
 pub set-value : (l : Option ℕ) → isSet l ≡ true → Value l
 set-value none e = absurd (true≢false (sym e))
 set-value (some k) e = record { value = k; is = refl }
 
--- it counts 1
+-- and counts 1
 pub set-one : (l : Option ℕ) → isSet l ≡ true → setOne l ≡ 1
 set-one none e = absurd (true≢false (sym e))
 set-one (some k) e = refl
@@ -42,6 +45,10 @@ not-both e s = absurd (true≢false (sym (rw e at s)))
 pub set-kept : (l m : Option ℕ) → ((k : ℕ) → l ≡ some k → m ≡ some k) → setOne l ≤ setOne m
 set-kept none m keeps = omega arith
 set-kept (some k) m keeps = rw (keeps k refl) (omega arith)
+
+-- where each of n vertices has its place, a label that is set belongs to one of them
+pub label-below : {n k : ℕ} (x : Labels) (v : ℕ) → length (x .distances) ≡ n → distanceOf x v ≡ some k → v < n
+label-below x v all e = rw all at (place-below (x .distances) v e)
 
 module _ {g : Graph} {source d : ℕ} {x : Labels} (l : LabelsSound g source d x) where
   -- a vertex that is set has its distance for label

@@ -1,11 +1,11 @@
 -- Demand 3, proved of playing any schedule (Theorem.antt, by way of the files before it), and what follows of a whole call (Calls.antt).
 pub mod Bench
-pub mod Alone
 pub mod Counts
+pub mod Alone
 pub mod Sound
 pub mod Walks
-pub mod Certificate
 pub mod LabelFacts
+pub mod Certificate
 pub mod Workers
 pub mod MovingLabels
 pub mod Moving
@@ -17,6 +17,8 @@ pub mod Cost
 pub mod CostFacts
 pub mod Costs
 pub mod Fits
+pub mod LayerEdges
+pub mod Following
 pub mod SerialRun
 pub mod Plays
 pub mod Rounds

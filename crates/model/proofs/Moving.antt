@@ -120,29 +120,29 @@ module _ {g : Graph} {source d : ℕ} {a : Labels} where
       stowed v true q h = inr (rw (← eqb-true t v q) (w .phase-sound .marked))
       stowed v false q h = inl (omega arith)
 
+  -- an unset target comes into hand
+  hand-moves : {input output : Bag} {u i : ℕ} → LabelsSound g source d a → WorkerSound g source d a (workerWith input output (holding u i))
+      → isSet (distanceOf a (edgeTarget g u i)) ≡ false
+      → Moves g source d a a (workerWith input output (holding u i)) (workerWith input output (inHand u i (edgeTarget g u i)))
+  hand-moves {output = output} {u = u} {i = i} l w unset = record {
+    sound = in-phase w (record { at = w .phase-sound; leads = refl; next = unset-next l (w .phase-sound) unset });
+    keeps = λ v k e. e;
+    inputs-fall = λ v. omega arith;
+    outputs-set = λ v h. inl h;
+    edges-kept = λ v j there. omega arith;
+    copies-kept = λ v. omega arith;
+    newly-set = λ v e s. not-both e s;
+    copies-added = λ v. added v (eqb (edgeTarget g u i) v) refl;
+    parents-kept = λ v. inl (omega arith);
+  }
+    where
+      added : (v : ℕ) (b : Bool) → eqb (edgeTarget g u i) v ≡ b
+          → (copies v output + cond b 1 0 ≡ copies v output + 0) ⊎ ((distanceOf a v ≡ none) × (copies v output ≡ copies v output))
+      added v true q = inr (unset-none (distanceOf a v) (rw (eqb-true (edgeTarget g u i) v q) at unset), refl)
+      added v false q = inl refl
+
 module _ {g : Graph} {source : ℕ} (ground : Ground g source) where
   module _ {d : ℕ} {a : Labels} (l : LabelsSound g source d a) where
-    -- an unset target comes into hand
-    hand-moves : {input output : Bag} {u i : ℕ} → WorkerSound g source d a (workerWith input output (holding u i))
-        → isSet (distanceOf a (edgeTarget g u i)) ≡ false
-        → Moves g source d a a (workerWith input output (holding u i)) (workerWith input output (inHand u i (edgeTarget g u i)))
-    hand-moves {output = output} {u = u} {i = i} w unset = record {
-      sound = in-phase w (record { at = w .phase-sound; leads = refl; next = unset-next ground l (w .phase-sound) unset });
-      keeps = λ v k e. e;
-      inputs-fall = λ v. omega arith;
-      outputs-set = λ v h. inl h;
-      edges-kept = λ v j there. omega arith;
-      copies-kept = λ v. omega arith;
-      newly-set = λ v e s. not-both e s;
-      copies-added = λ v. added v (eqb (edgeTarget g u i) v) refl;
-      parents-kept = λ v. inl (omega arith);
-    }
-      where
-        added : (v : ℕ) (b : Bool) → eqb (edgeTarget g u i) v ≡ b
-            → (copies v output + cond b 1 0 ≡ copies v output + 0) ⊎ ((distanceOf a v ≡ none) × (copies v output ≡ copies v output))
-        added v true q = inr (unset-none (distanceOf a v) (rw (eqb-true (edgeTarget g u i) v q) at unset), refl)
-        added v false q = inl refl
-
     -- mark: the vertex in hand gets its distance
     mark-moves : {input output : Bag} {u i t : ℕ} → WorkerSound g source d a (workerWith input output (inHand u i t))
         → Moves g source d a (mark d t a) (workerWith input output (inHand u i t)) (workerWith input output (marked u i t))
@@ -182,20 +182,20 @@ module _ {g : Graph} {source : ℕ} (ground : Ground g source) where
     }
 
     -- what a move leaves, if its condition is met: sound labels, and what is claimed of the sums
-    abbrev AfterMove : Worker → Option (Worker × Labels) → Type 0
-    AfterMove x none = Unit {0}
-    AfterMove x (some m) = LabelsSound g source d (m .1) × Moves g source d a (m .1) x (m .0)
+    abbrev MoveLeaves : Worker → Option (Worker × Labels) → Type 0
+    MoveLeaves x none = Unit {0}
+    MoveLeaves x (some m) = LabelsSound g source d (m .1) × Moves g source d a (m .1) x (m .0)
 
     -- the move of each phase leaves that
     move-each : (input output : Bag) (phase : Phase) → WorkerSound g source d a (workerWith input output phase)
-        → ((v : ℕ) → 1 ≤ copies v input → Distance g source v d) → AfterMove (workerWith input output phase) (move g d a input output phase)
+        → ((v : ℕ) → 1 ≤ copies v input → Distance g source v d) → MoveLeaves (workerWith input output phase) (move g d a input output phase)
     unfolding move look
     move-each input output free w near = go (isEmpty input) refl
       where
         after : Worker × Labels
         after = (workerWith (takeRest input) output (holdAt g (takenNumber input) 0), a)
 
-        go : (b : Bool) → isEmpty input ≡ b → AfterMove (workerWith input output free) (cond b none (some after))
+        go : (b : Bool) → isEmpty input ≡ b → MoveLeaves (workerWith input output free) (cond b none (some after))
         go true q = tt
         go false q = (l, take-moves (w .input-shaped) (w .output-shaped) q (near (takenNumber input) (taken-held input q)))
     move-each input output (holding u i) w near = go (isSet (distanceOf a (edgeTarget g u i))) refl
@@ -203,9 +203,9 @@ module _ {g : Graph} {source : ℕ} (ground : Ground g source) where
         after : Bool → Worker × Labels
         after b = (workerWith input output (cond b (holdAt g u (suc i)) (inHand u i (edgeTarget g u i))), a)
 
-        go : (b : Bool) → isSet (distanceOf a (edgeTarget g u i)) ≡ b → AfterMove (workerWith input output (holding u i)) (some (after b))
+        go : (b : Bool) → isSet (distanceOf a (edgeTarget g u i)) ≡ b → MoveLeaves (workerWith input output (holding u i)) (some (after b))
         go true q = (l, pass-moves w q)
-        go false q = (l, hand-moves w q)
+        go false q = (l, hand-moves l w q)
     move-each input output (inHand u i t) w near = (mark-sound ground l (w .phase-sound .next), mark-moves w)
     move-each input output (marked u i t) w near = (name-sound ground l (w .phase-sound), name-moves w)
     move-each input output (named u i t) w near = (l, stow-moves w)

@@ -11,11 +11,11 @@ use borrow.Author.Tests.{leb-true, leb-false}
 use Rattle.lists.proofs.Sums.{sum-set}
 use Rattle.lists.proofs.Replaced.{set-cases}
 use Rattle.graph.specs.Graph.{Graph}
-use Rattle.model.specs.Paths.{edgeTarget, Walk, onward, Distance, Labels, distanceOf, parentOf, isSet, Nearer}
+use Rattle.model.specs.Paths.{edgeTarget, Walk, Distance, Labels, distanceOf, parentOf, isSet, Nearer}
 use Rattle.model.specs.Table.{mark, name}
 use Rattle.model.proofs.Counts.{unsetOne, unsets}
 use Rattle.model.proofs.Sound.{Ground, LabelsSound, AtEdge, WithMark}
-use Rattle.model.proofs.Walks.{walk-below, distance-unique, distance-source}
+use Rattle.model.proofs.Walks.{walk-below, walk-more, distance-unique, distance-source}
 use Rattle.model.proofs.LabelFacts.{set-value, layer-is}
 
 -- a parent that is nearer stays so while the distances that are set stay
@@ -23,7 +23,7 @@ nearer-kept : {g : Graph} {a b : Labels} {p v : ℕ} → ((u k : ℕ) → distan
 nearer-kept {p = p} {v = v} keeps n =
     record { edge = n .edge; depth = n .depth; here = keeps p (n .depth) (n .here); there = keeps v (suc (n .depth)) (n .there) }
 
-module _ {g : Graph} {source : ℕ} (ground : Ground g source) {d : ℕ} {a : Labels} (l : LabelsSound g source d a) where
+module _ {g : Graph} {source d : ℕ} {a : Labels} (l : LabelsSound g source d a) where
   -- a label that is set is the distance
   written-is : {v k j : ℕ} → distanceOf a v ≡ some k → Distance g source v j → k ≡ j
   written-is {v = v} {k = k} e far = distance-unique (l .written v k e) far
@@ -31,7 +31,7 @@ module _ {g : Graph} {source : ℕ} (ground : Ground g source) {d : ℕ} {a : La
   -- the unset target of an edge of this layer is in the next one
   pub unset-next : {u i : ℕ} → AtEdge g source d u i → isSet (distanceOf a (edgeTarget g u i)) ≡ false → Distance g source (edgeTarget g u i) (suc d)
   unset-next {u = u} {i = i} at unset = record {
-    walk = onward (at .far .walk) (record { place = i; there = at .there; leads = refl });
+    walk = walk-more (at .far .walk) i (at .there);
     least = λ k w. go k w (leb k d) refl;
   }
     where
@@ -39,6 +39,7 @@ module _ {g : Graph} {source : ℕ} (ground : Ground g source) {d : ℕ} {a : La
       go k w true q = absurd (true≢false (sym (l .near (edgeTarget g u i) k w (leb-true k d q)) ∙ unset))
       go k w false q = leb-false k d q
 
+module _ {g : Graph} {source : ℕ} (ground : Ground g source) {d : ℕ} {a : Labels} (l : LabelsSound g source d a) where
   module _ {t : ℕ} (next : Distance g source t (suc d)) where
     -- a vertex of the next layer has a place for its distance
     has-distance : t < length (a .distances)
@@ -62,7 +63,7 @@ module _ {g : Graph} {source : ℕ} (ground : Ground g source) {d : ℕ} {a : La
     -- what is set stays as it is set
     pub mark-keeps : (v k : ℕ) → distanceOf a v ≡ some k → distanceOf (mark d t a) v ≡ some k
     mark-keeps v k e = mark-cases v (distanceOf (mark d t a) v) refl
-        (λ q r. let same = written-is (rw q at e) next in sym r ∙ rw same)
+        (λ q r. let same = written-is l (rw q at e) next in sym r ∙ rw same)
         (λ apart r. sym r ∙ e)
 
     -- each layer up to that of the vertex marked has a vertex that is set
@@ -75,7 +76,7 @@ module _ {g : Graph} {source : ℕ} (ground : Ground g source) {d : ℕ} {a : La
 
         go : (x : Option ℕ) → distanceOf a t ≡ x → after + unsetOne (distanceOf a t) ≡ unsets (a .distances) + 0 → d + 2 + after ≤ length g
         go none e h = omega (arith, rw e at h, l .room)
-        go (some k) e h = omega (arith, rw e at h, l .more-room t (rw (written-is e next) at e))
+        go (some k) e h = omega (arith, rw e at h, l .more-room t (rw (written-is l e next) at e))
 
     -- the labels stay sound
     pub mark-sound : LabelsSound g source d (mark d t a)

@@ -1,26 +1,21 @@
 -- The opening state is sound and opens layer 0: the source alone is labelled, and it is alone in worker 0's input bag.
-use mathlib.Core.Path.{_≡_, refl, sym, ap, _∙_}
+use mathlib.Core.Path.{_≡_, refl}
 use mathlib.Core.Bool.{Bool, true, false}
-use mathlib.Core.List.{List}
-use mathlib.Core.Option.{Option, none, some, Option·some-injective, Option·none-ne-some}
-use Rattle.lists.proofs.Replaced.{set-cases}
-use Prim.Native.Nat.{ℕ, _+_, _≤_, _<_}
+use mathlib.Core.Option.{none, some}
+use Prim.Native.Nat.{ℕ, _≤_}
 use native.Mathlib.Omega.{arith}
 use lib.Dec.{eqb}
-use lib.ListN.{length, getD, set, replicate, length-set, length-replicate}
-use lib.Seq.{getD-set-same}
+use lib.ListN.{length, getD, replicate, length-replicate}
 use borrow.Author.Tests.{eqb-true}
-use Rattle.lists.proofs.Sums.{sum-set, sum-replicate}
 use Rattle.lists.proofs.Parts.{getD-repeated}
-use Rattle.lists.proofs.Tests.{test-within}
 use Rattle.graph.specs.Graph.{Graph}
 use Rattle.pennant.specs.Bag.{emptyBag, bagInsert}
 use Rattle.pennant.specs.Held.{only, copies}
-use Rattle.pennant.proofs.Laws.{weigh-empty, weigh-insert, only-self, shaped-empty, shaped-insert}
+use Rattle.pennant.proofs.Laws.{weigh-empty, weigh-insert, only-self, only-few, shaped-empty, shaped-insert}
 use Rattle.model.specs.Paths.{Distance}
 use Rattle.model.specs.State.{idleWorker, openingLabels, openingState}
 use Rattle.model.specs.Demand.{LayerOpen}
-use Rattle.model.proofs.Counts.{unsetOne, unsets}
+use Rattle.model.proofs.Alone.{alone, alone-all, alone-own, alone-only, alone-unsets}
 use Rattle.model.proofs.Sound.{Ground, LabelsSound, Sound}
 use Rattle.model.proofs.Walks.{walk-zero, distance-source}
 use Rattle.model.proofs.LabelFacts.{set-value}
@@ -29,51 +24,23 @@ use Rattle.model.proofs.Fresh.{spare-idle, SpareCrew, LayerBag, fresh-s
 module _ {g : Graph} {source : ℕ} (ground : Ground g source) where
   -- Labels.
 
-  -- no vertex has a label
-  abbrev unlabelled : List (Option ℕ)
-  unlabelled = replicate (length g) none
-
-  -- the source alone has one
-  abbrev alone : ℕ → List (Option ℕ)
-  alone y = set unlabelled source (some y)
-
-  -- every vertex has its place
-  alone-all : (y : ℕ) → length (alone y) ≡ length g
-  alone-all y = length-set unlabelled source (some y) ∙ length-replicate (length g) none
-
-  -- the source has its place
-  source-there : source < length unlabelled
-  source-there = rw length-replicate (ground .starts)
-
-  -- the source has that label
-  alone-own : (y : ℕ) → getD (alone y) source none ≡ some y
-  alone-own y = getD-set-same unlabelled source (some y) none source-there
-
   -- what is set is the source's label
-  alone-only : (y v k : ℕ) → getD (alone y) v none ≡ some k → (v ≡ source) × (k ≡ y)
-  alone-only y v k e = set-cases unlabelled source v (some y) none (some k) source-there e
-      (λ same r. (same, Option·some-injective k y (sym r)))
-      (λ apart r. absurd (Option·none-ne-some k (sym (getD-repeated (length g) v none) ∙ r)))
-
-  -- all but one are unset
-  alone-unsets : (y : ℕ) → 1 + unsets (alone y) ≡ length g
-  alone-unsets y =
-      let replaced = sum-set unsetOne unlabelled source (some y) none source-there in
-      omega (arith, sum-replicate unsetOne (length g) none, ap unsetOne (getD-repeated (length g) source none))
+  only-source : {y v k : ℕ} → getD (alone (length g) source y) v none ≡ some k → (v ≡ source) × (k ≡ y)
+  only-source {y} {v} {k} e = alone-only (length g) source y v k (ground .starts) e
 
   -- the opening labels are sound
   opening-labels : LabelsSound g source 0 (openingLabels (length g) source)
   unfolding openingLabels
   opening-labels = record {
-    distances-all = alone-all 0;
-    parents-all = alone-all source;
-    written = λ v k e. let q = alone-only 0 v k e in rw (q .0, q .1) distance-source;
-    not-far = λ v k e. omega (arith, alone-only 0 v k e);
-    near = λ v k w h. rw (walk-zero w (omega arith), alone-own 0);
-    room = omega (arith, alone-unsets 0);
-    more-room = λ v e. absurd (omega (arith, alone-only 0 v 1 e));
-    own-parent = alone-own source;
-    parent = λ v p apart e. absurd (apart (alone-only source v p e .0));
+    distances-all = alone-all (length g) source 0;
+    parents-all = alone-all (length g) source source;
+    written = λ v k e. let q = only-source e in rw (q .0, q .1) distance-source;
+    not-far = λ v k e. omega (arith, only-source e);
+    near = λ v k w h. rw (walk-zero w (omega arith), alone-own (length g) source 0 (ground .starts));
+    room = omega (arith, alone-unsets (length g) source 0 (ground .starts));
+    more-room = λ v e. absurd (omega (arith, only-source e));
+    own-parent = alone-own (length g) source source (ground .starts);
+    parent = λ v p apart e. absurd (apart (only-source e .0));
   }
 
   -- Workers.
@@ -87,7 +54,7 @@ module _ {g : Graph} {source : ℕ} (ground : Ground g source) where
   opening-bag P p = record {
     every = λ v far. rw (walk-zero (far .walk) refl) (omega (arith, opening-copies source, only-self source));
     no-other = λ v h. there v (eqb source v) refl (omega (arith, opening-copies v));
-    at-most = λ v. omega (arith, opening-copies v, test-within (eqb source v) 1 (λ e. omega arith));
+    at-most = λ v. omega (arith, opening-copies v, only-few v source);
     shaped = shaped-insert source emptyBag shaped-empty;
   }
     where
@@ -106,8 +73,9 @@ module _ {g : Graph} {source : ℕ} (ground : Ground g source) where
   opening-sound P p = record {
     labels-sound = opening-labels;
     crew-sound = fresh-sound (opening-crew P p) (opening-bag P p)
-        (λ v e. omega (arith, alone-only 0 v 1 e))
-        (λ v e. let label = set-value (getD (alone 0) v none) e in rw (alone-only 0 v (label .value) (label .is) .0, alone-own source) (omega arith));
+        (λ v e. omega (arith, only-source e))
+        (λ v e. let label = set-value (getD (alone (length g) source 0) v none) e in
+        rw (only-source (label .is) .0, alone-own (length g) source source (ground .starts)) (omega arith));
   }
 
   -- and opens layer 0

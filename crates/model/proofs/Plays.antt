@@ -1,34 +1,23 @@
 -- What bytes do to a run, one and many: the number of workers stays, the effective count never falls, and after the finishing event nothing is used.
 use mathlib.Core.Path.{_≡_, refl, sym, _∙_, ap}
-use mathlib.Core.Bool.{Bool, true, false, cond, not, _&&_, true≢false}
+use mathlib.Core.Bool.{Bool, true, false, true≢false}
 use mathlib.Core.List.{List, [], _∷_, _++_, map, foldl, foldl-append}
-use mathlib.Core.Option.{Option, none, some, Option·none-ne-some, Option·some-injective}
+use mathlib.Core.Option.{Option, none, some, Option·none-ne-some}
 use Prim.Native.Nat.{ℕ, suc, _+_, _≤_}
 use native.Mathlib.Omega.{arith}
 use lib.ListN.{length, length-set, length-map}
+use Rattle.lists.proofs.Replaced.{length-two}
 use Rattle.graph.specs.Graph.{Graph}
-use Rattle.pennant.specs.Bag.{Bag, isEmpty, atLeastTwo}
+use Rattle.pennant.specs.Bag.{Bag, isEmpty}
 use Rattle.schedule.specs.declared.Event.{Event}
 use Rattle.schedule.specs.declared.Event.the-variants.{Work, Split, Unite, Close, Malformed}
 use Rattle.schedule.specs.Events.{eventOf}
-use Rattle.model.specs.Paths.{Labels}
-use Rattle.model.specs.State.{Worker, State, workerAt}
-use Rattle.model.specs.Table.{afterMove, splitInputs, uniteOutputs, allIdle, unitedOutputs, closed, act, handedIn, replaceWorkers}
+use Rattle.model.specs.State.{State}
+use Rattle.model.specs.Table.{splitInputs, uniteOutputs, unitedOutputs, closed, act, handedIn}
 use Rattle.model.specs.Play.{Run, tally, step, playFrom, metOne}
-use Rattle.model.proofs.Workers.{effective}
+use Rattle.model.proofs.Workers.{work-met, split-met, unite-met, close-met}
 
 -- No event adds or removes a worker.
-
--- a move puts a worker in the place of one
-moved-crew : (s t : State) (w : ℕ) (m : Option (Worker × Labels)) → afterMove s w m ≡ some t → length (t .workers) ≡ length (s .workers)
-unfolding afterMove
-moved-crew s t w none e = absurd (Option·none-ne-some t e)
-moved-crew s t w (some m) e = rw (← Option·some-injective _ t e) (length-set (s .workers) w (m .0))
-
--- an effective event leaves as many workers as the table's state has
-crew-after : (s t u : State) (b : Bool) → length (u .workers) ≡ length (s .workers) → cond b (some u) none ≡ some t
-    → length (t .workers) ≡ length (s .workers)
-crew-after s t u b same e = rw (← effective b u t e .1) same
 
 -- a close
 closed-crew : (s : State) (bag : Bag) (b : Bool) → isEmpty bag ≡ b → length (closed s bag .workers) ≡ length (s .workers)
@@ -36,27 +25,13 @@ unfolding closed
 closed-crew s bag true e = rw e
 closed-crew s bag false e = rw e (length-set (map handedIn (s .workers)) 0 _ ∙ length-map (s .workers) handedIn)
 
--- a split
-split-crew : (workers : List Worker) (w v : ℕ) → length (splitInputs workers w v) ≡ length workers
-unfolding splitInputs
-split-crew workers w v = simp length-set
-
--- a union
-unite-crew : (workers : List Worker) (w v : ℕ) → length (uniteOutputs workers w v) ≡ length workers
-unfolding uniteOutputs
-unite-crew workers w v = simp length-set
-
 -- any event
 act-crew : (g : Graph) (s t : State) (e : Event) → act g s e ≡ some t → length (t .workers) ≡ length (s .workers)
-unfolding act
-act-crew g s t (Work w) h = moved-crew s t w _ h
-act-crew g s t (Split w v) h =
-    let met = isEmpty (workerAt (s .workers) w .input) && atLeastTwo (workerAt (s .workers) v .input) in
-    crew-after s t (replaceWorkers s (splitInputs (s .workers) w v)) met (split-crew (s .workers) w v) h
-act-crew g s t (Unite w v) h =
-    let met = not (isEmpty (workerAt (s .workers) w .output)) && not (isEmpty (workerAt (s .workers) v .output)) in
-    crew-after s t (replaceWorkers s (uniteOutputs (s .workers) w v)) met (unite-crew (s .workers) w v) h
-act-crew g s t Close h = crew-after s t (closed s (unitedOutputs (s .workers))) (allIdle (s .workers)) (closed-crew s (unitedOutputs (s .workers)) _ refl) h
+unfolding act splitInputs uniteOutputs
+act-crew g s t (Work w) h = let met = work-met g s w h in rw (← met .2) (length-set (s .workers) w (met .0 .0))
+act-crew g s t (Split w v) h = rw (← split-met g s w v h .2) (length-two (s .workers) v w _ _)
+act-crew g s t (Unite w v) h = rw (← unite-met g s w v h .2) (length-two (s .workers) v w _ _)
+act-crew g s t Close h = rw (← close-met g s h .1) (closed-crew s (unitedOutputs (s .workers)) _ refl)
 act-crew g s t Malformed h = absurd (Option·none-ne-some t h)
 
 -- One byte, and many.

@@ -1,14 +1,13 @@
 -- One event, and one byte: what they keep. Every event's part (a move, a split, a union, a close) is proved in its own file; here they are joined.
 use mathlib.Core.Path.{_≡_, refl, sym, _∙_, ap}
-use mathlib.Core.Bool.{Bool, true, false, not, _&&_, and-eq-true-iff, true≢false}
+use mathlib.Core.Bool.{Bool, true, false, true≢false}
 use mathlib.Core.List.{List}
-use mathlib.Core.Option.{Option, none, some, Option·none-ne-some, Option·some-injective}
+use mathlib.Core.Option.{Option, none, some, Option·none-ne-some}
 use Prim.Native.Nat.{ℕ, suc, _+_, _≤_, _<_}
 use native.Mathlib.Omega.{arith}
-use lib.ListN.{set}
 use Rattle.lists.proofs.Sums.{sum-at}
 use Rattle.graph.specs.Graph.{Graph}
-use Rattle.pennant.specs.Bag.{Bag, isEmpty, atLeastTwo}
+use Rattle.pennant.specs.Bag.{Bag, isEmpty}
 use Rattle.pennant.specs.Held.{only, copies}
 use Rattle.pennant.proofs.Laws.{weigh-empty}
 use Rattle.schedule.specs.declared.Event.{Event}
@@ -17,11 +16,11 @@ use Rattle.schedule.specs.Events.{eventOf, within}
 use Rattle.schedule.proofs.Bytes.{Staffed, byte-staffed}
 use Rattle.model.specs.Paths.{Distance, Labels, Certified}
 use Rattle.model.specs.State.{Worker, idleWorker, State, workerAt}
-use Rattle.model.specs.Table.{afterMove, replaceWorkers, splitInputs, uniteOutputs, allIdle, unitedOutputs, closed, act, moveOf}
+use Rattle.model.specs.Table.{replaceWorkers, splitInputs, uniteOutputs, allIdle, unitedOutputs, closed, act}
 use Rattle.model.specs.Play.{Run, tally, step, eventBound}
 use Rattle.model.specs.Demand.{LayerOpen}
 use Rattle.model.proofs.Sound.{Ground, CrewSound, Sound}
-use Rattle.model.proofs.Workers.{effective}
+use Rattle.model.proofs.Workers.{movedState, work-met, split-met, unite-met, close-met}
 use Rattle.model.proofs.Cost.{cost}
 use Rattle.model.proofs.Plays.{step-over, step-on}
 use Rattle.model.proofs.Moving.{move-after}
@@ -30,20 +29,21 @@ use Rattle.model.proofs.Closing.{close-sound, close-opens, close-certif
 use Rattle.model.proofs.Costs.{work-cost, split-cost, unite-cost, close-cost}
 
 -- what an effective event leaves: a sound state, an open layer if d was raised, a certified result if the search is finished, and less to pay
-pub record After (g : Graph) (source P : ℕ) (s t : State) : Type 0 where
-  pub sound : Sound g source P t
-  pub opens : (t .layer ≡ s .layer → ⊥) → LayerOpen g source P t
-  pub ended : t .finished ≡ true → Certified g source (t .labels)
-  pub cheaper : suc (cost P g t) ≤ cost P g s
+record After (g : Graph) (source P : ℕ) (s t : State) : Type 0 where
+  sound : Sound g source P t
+  opens : (t .layer ≡ s .layer → ⊥) → LayerOpen g source P t
+  ended : t .finished ≡ true → Certified g source (t .labels)
+  cheaper : suc (cost P g t) ≤ cost P g s
 
 -- what an event leaves that is no close: the layer stays
-pub record Kept (g : Graph) (source P : ℕ) (s t : State) : Type 0 where
-  pub sound : Sound g source P t
-  pub same-layer : t .layer ≡ s .layer
-  pub same-end : t .finished ≡ s .finished
+record Kept (g : Graph) (source P : ℕ) (s t : State) : Type 0 where
+  sound : Sound g source P t
+  same-layer : t .layer ≡ s .layer
+  same-end : t .finished ≡ s .finished
 
 -- in a search that isn't finished, with less to pay
-kept-after : {g : Graph} {source P : ℕ} {s t : State} → Kept g source P s t → s .finished ≡ false → suc (cost P g t) ≤ cost P g s → After g source P s t
+kept-after : {g : Graph} {source P : ℕ} {s t : State} → Kept g source P s t → s .finished ≡ false → suc (cost P g t) ≤ cost P g s
+    → After g source P s t
 kept-after k live less = record {
   sound = k .sound;
   opens = λ other. absurd (other (k .same-layer));
@@ -51,59 +51,47 @@ kept-after k live less = record {
   cheaper = less;
 }
 
-module _ {g : Graph} {source : ℕ} (ground : Ground g source) {P : ℕ} where
+module _ {g : Graph} {source P : ℕ} where
   -- the vertices of one input bag belong to this layer
-  input-within : {d : ℕ} {x : Labels} (workers : List Worker) → CrewSound g source P d x workers → (w v : ℕ) → 1 ≤ copies v (workerAt workers w .input) → Distance g source v d
+  input-within : {d : ℕ} {x : Labels} (workers : List Worker) → CrewSound g source P d x workers → (w v : ℕ)
+      → 1 ≤ copies v (workerAt workers w .input) → Distance g source v d
   input-within workers c w v h = c .input-near v (omega (arith, sum-at (λ (y : Worker). copies v (y .input)) workers w idleWorker (weigh-empty (only v))))
 
-  -- a worker's move
-  moved-kept : (s t : State) (w : ℕ) → Sound g source P s → w < P → (m : Option (Worker × Labels))
-      → moveOf g (s .layer) (s .labels) (workerAt (s .workers) w) ≡ m
-      → afterMove s w m ≡ some t → Kept g source P s t
-  unfolding afterMove
-  moved-kept s t w h below none e k = absurd (Option·none-ne-some t k)
-  moved-kept s t w h below (some m) e k =
-      let after : State = record { labels = m .1; workers = set (s .workers) w (m .0); layer = s .layer; finished = s .finished } in
-      let same : after ≡ t = Option·some-injective after t k in
+  -- work: a worker's move
+  work-kept : Ground g source → (s t : State) (w : ℕ) → Sound g source P s → w < P → act g s (Work w) ≡ some t → Kept g source P s t
+  work-kept ground s t w h below k =
+      let met = work-met g s w k in
       let near = input-within (s .workers) (h .crew-sound) w in
-      let moves = move-after ground (h .labels-sound) (h .crew-sound .each w) near e in
-      let sound : Sound g source P after = record {
-        labels-sound = moves .0;
-        crew-sound = crew-moves (s .workers) w (m .0) (h .crew-sound) below (moves .1);
+      let moves = move-after ground (h .labels-sound) (h .crew-sound .each w) near (met .1) in
+      let kept : Kept g source P s (movedState s w (met .0)) = record {
+        sound = record { labels-sound = moves .0; crew-sound = crew-moves (s .workers) w (met .0 .0) (h .crew-sound) below (moves .1) };
+        same-layer = refl;
+        same-end = refl;
       } in
-      let kept : Kept g source P s after = record { sound = sound; same-layer = refl; same-end = refl } in
-      rw (← same) kept
+      rw (← met .2) kept
 
   -- other workers, the same labels
-  workers-kept : (s : State) (workers : List Worker) → Sound g source P s → CrewSound g source P (s .layer) (s .labels) workers → Kept g source P s (replaceWorkers s workers)
+  workers-kept : (s : State) (workers : List Worker) → Sound g source P s → CrewSound g source P (s .layer) (s .labels) workers
+      → Kept g source P s (replaceWorkers s workers)
   workers-kept s workers h c = record { sound = record { labels-sound = h .labels-sound; crew-sound = c }; same-layer = refl; same-end = refl }
-
-  -- work
-  work-kept : (s t : State) (w : ℕ) → Sound g source P s → w < P → act g s (Work w) ≡ some t → Kept g source P s t
-  unfolding act
-  work-kept s t w h below k = moved-kept s t w h below _ refl k
 
   -- a split
   split-kept : (s t : State) (w v : ℕ) → Sound g source P s → Staffed P (Split w v) → act g s (Split w v) ≡ some t → Kept g source P s t
-  unfolding act
   split-kept s t w v h fits k =
-      let x = workerAt (s .workers) w .input in
-      let y = workerAt (s .workers) v .input in
-      let met = effective (isEmpty x && atLeastTwo y) (replaceWorkers s (splitInputs (s .workers) w v)) t k in
-      let both = and-eq-true-iff (isEmpty x) (atLeastTwo y) .0 (met .0) in
-      rw (← met .1) (workers-kept s (splitInputs (s .workers) w v) h (crew-split (s .workers) w v (h .crew-sound) (fits .0) (fits .1) (fits .2) (both .0)))
+      let met = split-met g s w v k in
+      let crew = crew-split (s .workers) w v (h .crew-sound) (fits .0) (fits .1) (fits .2) (met .0) in
+      rw (← met .2) (workers-kept s (splitInputs (s .workers) w v) h crew)
 
   -- a union
   unite-kept : (s t : State) (w v : ℕ) → Sound g source P s → Staffed P (Unite w v) → act g s (Unite w v) ≡ some t → Kept g source P s t
-  unfolding act
   unite-kept s t w v h fits k =
-      let x = workerAt (s .workers) w .output in
-      let y = workerAt (s .workers) v .output in
-      let met = effective (not (isEmpty x) && not (isEmpty y)) (replaceWorkers s (uniteOutputs (s .workers) w v)) t k in
-      rw (← met .1) (workers-kept s (uniteOutputs (s .workers) w v) h (crew-unite (s .workers) w v (h .crew-sound) (fits .0) (fits .1) (fits .2)))
+      let met = unite-met g s w v k in
+      let crew = crew-unite (s .workers) w v (h .crew-sound) (fits .0) (fits .1) (fits .2) in
+      rw (← met .2) (workers-kept s (uniteOutputs (s .workers) w v) h crew)
 
 -- a close of an empty united bag: the search is finished, and all else stays
-closed-empty : (s : State) (bag : Bag) → isEmpty bag ≡ true → closed s bag ≡ record { labels = s .labels; workers = s .workers; layer = s .layer; finished = true }
+closed-empty : (s : State) (bag : Bag) → isEmpty bag ≡ true
+    → closed s bag ≡ record { labels = s .labels; workers = s .workers; layer = s .layer; finished = true }
 unfolding closed
 closed-empty s bag e = rw e
 
@@ -111,6 +99,29 @@ closed-empty s bag e = rw e
 closed-filled : (s : State) (bag : Bag) → isEmpty bag ≡ false → closed s bag .finished ≡ false
 unfolding closed
 closed-filled s bag e = rw e
+
+module _ {g : Graph} {source P : ℕ} where
+  -- an effective close
+  closed-after : (s : State) → 1 ≤ P → Sound g source P s → allIdle (s .workers) ≡ true
+      → suc (cost P g (closed s (unitedOutputs (s .workers)))) ≤ cost P g s
+      → (b : Bool) → isEmpty (unitedOutputs (s .workers)) ≡ b → After g source P s (closed s (unitedOutputs (s .workers)))
+  closed-after s p h idle less true e =
+      let bag = unitedOutputs (s .workers) in
+      let over : State = record { labels = s .labels; workers = s .workers; layer = s .layer; finished = true } in
+      let same : closed s bag ≡ over = closed-empty s bag e in
+      let sound : Sound g source P over = record { labels-sound = h .labels-sound; crew-sound = h .crew-sound } in
+      record {
+        sound = rw same sound;
+        opens = λ other. absurd (other (ap (λ (t : State). t .layer) same));
+        ended = λ f. rw same (close-certified h idle e);
+        cheaper = less;
+      }
+  closed-after s p h idle less false e = record {
+    sound = close-sound p h idle e;
+    opens = λ other. close-opens p h idle e;
+    ended = λ f. absurd (true≢false (sym f ∙ closed-filled s (unitedOutputs (s .workers)) e));
+    cheaper = less;
+  }
 
 -- a run so far: a sound state, what was paid and what is still to pay, and a certified result once it is finished
 pub record Good (g : Graph) (source P : ℕ) (r : Run) : Type 0 where
@@ -123,51 +134,31 @@ pub record Next (g : Graph) (source P : ℕ) (r q : Run) : Type 0 where
   pub good : Good g source P q
   pub opens : (q .state .layer ≡ r .state .layer → ⊥) → LayerOpen g source P (q .state)
 
-module _ {g : Graph} {source : ℕ} (ground : Ground g source) {P : ℕ} (some-worker : 1 ≤ P) where
-  -- an effective close
-  closed-after : (s : State) → Sound g source P s → allIdle (s .workers) ≡ true → suc (cost P g (closed s (unitedOutputs (s .workers)))) ≤ cost P g s
-      → (b : Bool) → isEmpty (unitedOutputs (s .workers)) ≡ b → After g source P s (closed s (unitedOutputs (s .workers)))
-  closed-after s h idle less true e =
-      let bag = unitedOutputs (s .workers) in
-      let over : State = record { labels = s .labels; workers = s .workers; layer = s .layer; finished = true } in
-      let same : closed s bag ≡ over = closed-empty s bag e in
-      let sound : Sound g source P over = record { labels-sound = h .labels-sound; crew-sound = h .crew-sound } in
-      record {
-        sound = rw same sound;
-        opens = λ other. absurd (other (ap (λ (t : State). t .layer) same));
-        ended = λ f. rw same (close-certified h idle e);
-        cheaper = less;
-      }
-  closed-after s h idle less false e = record {
-    sound = close-sound some-worker h idle e;
-    opens = λ other. close-opens some-worker h idle e;
-    ended = λ f. absurd (true≢false (sym f ∙ closed-filled s (unitedOutputs (s .workers)) e));
-    cheaper = less;
-  }
+-- a run that stays where it is, but for the bytes used
+next-same : {g : Graph} {source P : ℕ} (r q : Run) → Good g source P r → q .state ≡ r .state → q .effective ≡ r .effective → Next g source P r q
+next-same {g} {source} {P} r q h same count =
+    let good : Good g source P q = record {
+      sound = rw same (h .sound);
+      paid = omega (arith, h .paid, count, ap (cost P g) same);
+      ended = λ f. rw same (h .ended (sym (ap (λ (s : State). s .finished) same) ∙ f));
+    } in
+    record { good = good; opens = λ other. absurd (other (ap (λ (s : State). s .layer) same)) }
 
+module _ {g : Graph} {source : ℕ} (ground : Ground g source) {P : ℕ} (some-worker : 1 ≤ P) where
   -- an effective event
-  pub act-after : (s t : State) (e : Event) → Sound g source P s → s .finished ≡ false → Staffed P e → act g s e ≡ some t → After g source P s t
+  act-after : (s t : State) (e : Event) → Sound g source P s → s .finished ≡ false → Staffed P e → act g s e ≡ some t → After g source P s t
   unfolding act
   act-after s t (Work w) h live below k = kept-after (work-kept ground s t w h below k) live (work-cost ground w h below k)
-  act-after s t (Split w v) h live fits k = kept-after (split-kept ground s t w v h fits k) live (split-cost ground w v h (fits .0) (fits .1) (fits .2) k)
-  act-after s t (Unite w v) h live fits k = kept-after (unite-kept ground s t w v h fits k) live (unite-cost ground w v h (fits .0) (fits .1) (fits .2) k)
+  act-after s t (Split w v) h live fits k = kept-after (split-kept s t w v h fits k) live (split-cost w v h (fits .0) (fits .1) (fits .2) k)
+  act-after s t (Unite w v) h live fits k = kept-after (unite-kept s t w v h fits k) live (unite-cost w v h (fits .0) (fits .1) (fits .2) k)
   act-after s t Close h live fits k =
-      let met = effective (allIdle (s .workers)) (closed s (unitedOutputs (s .workers))) t k in
-      rw (← met .1) (closed-after s h (met .0) (rw (met .1) (close-cost ground some-worker h live k)) _ refl)
+      let met = close-met g s k in
+      rw (← met .1) (closed-after s some-worker h (met .0) (rw (met .1) (close-cost some-worker h live k)) _ refl)
   act-after s t Malformed h live fits k = absurd (Option·none-ne-some t k)
 
-  -- a run that stays where it is, but for the bytes used
-  next-same : (r q : Run) → Good g source P r → q .state ≡ r .state → q .effective ≡ r .effective → Next g source P r q
-  next-same r q h same count =
-      let good : Good g source P q = record {
-        sound = rw same (h .sound);
-        paid = omega (arith, h .paid, count, ap (cost P g) same);
-        ended = λ f. rw same (h .ended (sym (ap (λ (s : State). s .finished) same) ∙ f));
-      } in
-      record { good = good; opens = λ other. absurd (other (ap (λ (s : State). s .layer) same)) }
-
   -- a byte whose event is met or not
-  tally-next : (r : Run) (e : Event) → Good g source P r → r .state .finished ≡ false → Staffed P e → (o : Option State) → act g (r .state) e ≡ o → Next g source P r (tally r o)
+  tally-next : (r : Run) (e : Event) → Good g source P r → r .state .finished ≡ false → Staffed P e
+      → (o : Option State) → act g (r .state) e ≡ o → Next g source P r (tally r o)
   unfolding tally
   tally-next r e h live fits none k = next-same r (tally r none) h refl refl
   tally-next r e h live fits (some t) k =
@@ -176,6 +167,7 @@ module _ {g : Graph} {source : ℕ} (ground : Ground g source) {P : ℕ} (some-w
       record { good = good; opens = after .opens }
 
   -- a byte
-  pub step-next : (r : Run) (byte : ℕ) → Good g source P r → within P (eventOf byte) ≡ true → (f : Bool) → r .state .finished ≡ f → Next g source P r (step g r byte)
+  pub step-next : (r : Run) (byte : ℕ) → Good g source P r → within P (eventOf byte) ≡ true → (f : Bool) → r .state .finished ≡ f
+      → Next g source P r (step g r byte)
   step-next r byte h w true f = rw (step-over g r byte f) (next-same r r h refl refl)
   step-next r byte h w false f = rw (step-on g r byte f) (tally-next r (eventOf byte) h f (byte-staffed P byte (eventOf byte) refl w) _ refl)

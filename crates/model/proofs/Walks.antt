@@ -1,4 +1,4 @@
--- Facts about paths and distances: where they end, that a distance is unique, and the last link of a path.
+-- Facts about paths and distances: where they end, that a distance is unique, one link more, and the last link of a path.
 use mathlib.Core.Path.{_≡_, refl}
 use Prim.Native.Nat.{ℕ, suc, _<_}
 use native.Mathlib.Omega.{arith}
@@ -26,6 +26,10 @@ pub record LastEdge (g : Graph) (source v d : ℕ) : Type 0 where
   pub edge : Joins g before v
 
 module _ {g : Graph} {source : ℕ} where
+  -- a path to u and a link of u's row make a path of one link more
+  pub walk-more : {u k : ℕ} → Walk g source u k → (i : ℕ) → i < length (edges g u) → Walk g source (edgeTarget g u i) (suc k)
+  walk-more w i there = onward w (record { place = i; there = there; leads = refl })
+
   -- a path of no link ends at the source
   pub walk-zero : {v k : ℕ} → Walk g source v k → k ≡ 0 → v ≡ source
   walk-zero stay e = refl

@@ -1,41 +1,35 @@
--- Facts about workers: one that goes to an edge, one that is idle, all of them idle, bags united one after another; and what a condition that
--- is met tells.
-use mathlib.Core.Path.{_≡_, refl, sym, _∙_}
-use mathlib.Core.Bool.{Bool, true, false, cond, _&&_, and-eq-true-iff, true≢false}
+-- Facts about workers: one that goes to an edge, one that is idle, all of them idle, bags united one after another; and what an effective event
+-- tells: its condition, and the state after it.
+use mathlib.Core.Path.{_≡_, refl, sym}
+use mathlib.Core.Bool.{Bool, true, false, cond, not, _&&_, and-eq-true-iff, true≢false}
 use mathlib.Core.List.{List, [], _∷_, map, foldl}
-use mathlib.Core.Option.{none, some, Option·none-ne-some, Option·some-injective}
+use mathlib.Core.Option.{Option, none, some, Option·none-ne-some, Option·some-injective}
 use Prim.Native.Nat.{ℕ, zero, suc, _+_, _≤_, _<_}
 use native.Mathlib.Omega.{arith}
 use lib.Dec.{ltb}
-use lib.ListN.{length, getD}
-use borrow.Author.Tests.{ltb-true, ltb-false, eq-eqb}
+use lib.ListN.{length, getD, set}
+use borrow.Author.Tests.{ltb-true, ltb-false, not-true}
 use Rattle.lists.specs.Lists.{sumOf}
 use Rattle.graph.specs.Graph.{Graph, edges}
-use Rattle.pennant.specs.Bag.{Bag, emptyBag, bagUnion, isEmpty}
-use Rattle.pennant.specs.Held.{weigh, one, size, Shaped}
-use Rattle.pennant.proofs.Laws.{weigh-empty, weigh-union, empty-size, shaped-union}
-use Rattle.model.specs.State.{Phase, free, holding, inHand, marked, named, Worker, idleWorker, workerAt}
-use Rattle.model.specs.Table.{holdAt, isFree, allIdle}
-
--- where an event is effective its condition is met, and the state after it is the one that the table says
-pub effective : {A : Type 0} (b : Bool) (u t : A) → cond b (some u) none ≡ some t → (b ≡ true) × (u ≡ t)
-effective true u t e = (refl, Option·some-injective u t e)
-effective false u t e = absurd (Option·none-ne-some t e)
+use Rattle.pennant.specs.Bag.{Bag, bagUnion, isEmpty, atLeastTwo}
+use Rattle.pennant.specs.Held.{weigh, Shaped}
+use Rattle.pennant.proofs.Laws.{weigh-union, empty-bag, shaped-union}
+use Rattle.schedule.specs.declared.Event.the-variants.{Work, Split, Unite, Close}
+use Rattle.model.specs.Paths.{Labels}
+use Rattle.model.specs.State.{Phase, free, holding, inHand, marked, named, Worker, idleWorker, State, workerAt}
+use Rattle.model.specs.Table.{holdAt, moveOf, afterMove, replaceWorkers, splitInputs, uniteOutputs, isFree, allIdle, unitedOutputs, closed, act}
 
 -- a worker that goes to edge i of u: it is free where u has no such edge, else it holds u there
-pub hold-cases : (g : Graph) (P : Phase → Type 0) (u i : ℕ) → (length (edges g u) ≤ i → P free) → (i < length (edges g u) → P (holding u i)) → P (holdAt g u i)
+pub hold-cases : (g : Graph) (Q : Phase → Type 0) (u i : ℕ) → (length (edges g u) ≤ i → Q free) → (i < length (edges g u) → Q (holding u i))
+    → Q (holdAt g u i)
 unfolding holdAt
-hold-cases g P u i past there = go (ltb i (length (edges g u))) refl
+hold-cases g Q u i past there = go (ltb i (length (edges g u))) refl
   where
-    go : (b : Bool) → ltb i (length (edges g u)) ≡ b → P (cond b (holding u i) free)
+    go : (b : Bool) → ltb i (length (edges g u)) ≡ b → Q (cond b (holding u i) free)
     go true q = there (ltb-true i (length (edges g u)) q)
     go false q = past (ltb-false i (length (edges g u)) q)
 
 -- Bags.
-
--- the empty bag is empty
-pub empty-bag : isEmpty emptyBag ≡ true
-empty-bag = empty-size emptyBag ∙ eq-eqb (size emptyBag) 0 (weigh-empty one)
 
 module _ {A : Type 0} (bagOf : A → Bag) where
   -- bags united one after another weigh what all of them weigh
@@ -62,7 +56,7 @@ pub idle-worker : Idle idleWorker
 idle-worker = record { input-empty = empty-bag; phase-free = refl }
 
 -- the test for a free worker
-pub free-phase : (p : Phase) → isFree p ≡ true → p ≡ free
+free-phase : (p : Phase) → isFree p ≡ true → p ≡ free
 unfolding isFree
 free-phase free e = refl
 free-phase (holding u i) e = absurd (true≢false (sym e))
@@ -91,3 +85,56 @@ all-idle [] h = refl
 all-idle (w ∷ workers) h =
     let first = h 0 (omega arith) in
     rw (first .phase-free, first .input-empty) (all-idle workers (λ i k. h (suc i) (omega arith)))
+
+-- Effective events.
+
+-- where an event is effective its condition is met, and the state after it is the one that the table says
+pub effective : {A : Type 0} (b : Bool) (u t : A) → cond b (some u) none ≡ some t → (b ≡ true) × (u ≡ t)
+effective true u t e = (refl, Option·some-injective u t e)
+effective false u t e = absurd (Option·none-ne-some t e)
+
+-- the state after a move of worker w
+abbrev pub movedState : State → ℕ → Worker × Labels → State
+movedState s w m = record { labels = m .1; workers = set (s .workers) w (m .0); layer = s .layer; finished = s .finished }
+
+module _ (g : Graph) (s : State) where
+  -- the move that worker w has, if any
+  abbrev moveAt : ℕ → Option (Worker × Labels)
+  moveAt w = moveOf g (s .layer) (s .labels) (workerAt (s .workers) w)
+
+  -- a work: the worker has a move
+  pub work-met : {t : State} (w : ℕ) → act g s (Work w) ≡ some t → (m : Worker × Labels) × (moveAt w ≡ some m) × (movedState s w m ≡ t)
+  unfolding act afterMove
+  work-met {t} w e = go (moveAt w) refl e
+    where
+      go : (o : Option (Worker × Labels)) → moveAt w ≡ o → afterMove s w o ≡ some t
+          → (m : Worker × Labels) × (moveAt w ≡ some m) × (movedState s w m ≡ t)
+      go none made after = absurd (Option·none-ne-some t after)
+      go (some m) made after = (m, made, Option·some-injective (movedState s w m) t after)
+
+  -- a split: w's input bag is empty, v's holds two numbers at least
+  pub split-met : {t : State} (w v : ℕ) → act g s (Split w v) ≡ some t
+      → (isEmpty (workerAt (s .workers) w .input) ≡ true) × (atLeastTwo (workerAt (s .workers) v .input) ≡ true)
+      × (replaceWorkers s (splitInputs (s .workers) w v) ≡ t)
+  unfolding act
+  split-met {t} w v e =
+      let met = effective _ (replaceWorkers s (splitInputs (s .workers) w v)) t e in
+      let both = and-eq-true-iff (isEmpty (workerAt (s .workers) w .input)) (atLeastTwo (workerAt (s .workers) v .input)) .0 (met .0) in
+      (both .0, both .1, met .1)
+
+  -- a union: neither output bag is empty
+  pub unite-met : {t : State} (w v : ℕ) → act g s (Unite w v) ≡ some t
+      → (isEmpty (workerAt (s .workers) w .output) ≡ false) × (isEmpty (workerAt (s .workers) v .output) ≡ false)
+      × (replaceWorkers s (uniteOutputs (s .workers) w v) ≡ t)
+  unfolding act
+  unite-met {t} w v e =
+      let from = isEmpty (workerAt (s .workers) w .output) in
+      let into = isEmpty (workerAt (s .workers) v .output) in
+      let met = effective _ (replaceWorkers s (uniteOutputs (s .workers) w v)) t e in
+      let both = and-eq-true-iff (not from) (not into) .0 (met .0) in
+      (not-true from (both .0), not-true into (both .1), met .1)
+
+  -- a close: all workers are idle
+  pub close-met : {t : State} → act g s Close ≡ some t → (allIdle (s .workers) ≡ true) × (closed s (unitedOutputs (s .workers)) ≡ t)
+  unfolding act
+  close-met {t} e = effective _ (closed s (unitedOutputs (s .workers))) t e

@@ -1,10 +1,10 @@
 -- The laws of pennants and bags: the one place that the crates above name them by.
 
 -- Weights: the sum of any f over the numbers held, one law per operation; copies are f = only v, sizes f = one.
-pub use Rattle.pennant.proofs.Weights.{weigh-empty, weigh-insert, weigh-union, weigh-split, weigh-items, only-self}
+pub use Rattle.pennant.proofs.Weights.{weigh-empty, weigh-insert, weigh-union, weigh-split, weigh-items, only-self, only-few}
 pub use Rattle.pennant.proofs.Shapes.{weigh-rest}
 -- Empty or not, and the number taken.
-pub use Rattle.pennant.proofs.Weights.{empty-size, empty-weighs, filled-size, sized-filled, taken-held}
+pub use Rattle.pennant.proofs.Weights.{empty-size, empty-bag, empty-weighs, filled-size, sized-filled, taken-held}
 -- Shapes: slot k is empty or holds a pennant of size 2^k, before and after.
 pub use Rattle.pennant.proofs.Shapes.{shaped-empty, shaped-insert, shaped-union, shaped-first, shaped-second, shaped-rest}
 -- Sizes: what a slot, a half and a bag hold.

@@ -11,6 +11,7 @@ use lib.ListN.{getD, replicate}
 use borrow.Author.Tests.{eqb-false, eq-eqb, ne-eqb}
 use Rattle.lists.specs.Lists.{sumOf}
 use Rattle.lists.proofs.Sums.{sum-append, sum-at}
+use Rattle.lists.proofs.Tests.{test-within}
 use Rattle.pennant.specs.Pennant.{Tree, null, node, Slot, gap, tip, pennantUnion, pennantFirst, pennantSecond}
 use Rattle.pennant.specs.Bag.{Bag, slotCount, emptyBag, insertPennant, bagInsert, insertFilled, adderSum, adderCarry, addFrom, bagUnion}
 use Rattle.pennant.specs.Bag.{splitFirst, splitSecond, takenNumber, isEmpty}
@@ -114,7 +115,9 @@ pub weigh-split : (f : ℕ → ℕ) (s : Bag) → weigh f (splitFirst s) + weigh
 unfolding splitFirst splitSecond weigh sumOf
 weigh-split f [] = refl
 weigh-split f (y ∷ s) =
-    omega (arith, weigh-insert-filled f y (map pennantFirst s ++ gap ∷ []), weigh-end f (map pennantFirst s), weigh-end f (map pennantSecond s), weigh-halves f s)
+    let kept = weigh-end f (map pennantFirst s) in
+    let split-off = weigh-end f (map pennantSecond s) in
+    omega (arith, weigh-insert-filled f y (map pennantFirst s ++ gap ∷ []), weigh-halves f s)
 
 -- One slot.
 
@@ -149,6 +152,10 @@ weigh-items f (x ∷ s) = omega (arith, weigh-slot-items f x, weigh-items f s, s
 pub only-self : (v : ℕ) → only v v ≡ 1
 only-self v = rw (eq-eqb v v refl)
 
+-- and at most once in any
+pub only-few : (v x : ℕ) → only v x ≤ 1
+only-few v x = test-within (eqb x v) 1 (λ e. omega arith)
+
 -- Empty or not.
 
 -- a bag is empty where its size is 0
@@ -157,6 +164,10 @@ unfolding isEmpty weigh weighSlot sumOf
 empty-size [] = refl
 empty-size (gap ∷ s) = rw (zero-add (size s)) (empty-size s)
 empty-size (tip a t ∷ s) = sym (ne-eqb (1 + weighTree one t + weigh one s) 0 (λ q. omega arith))
+
+-- the empty bag is empty
+pub empty-bag : isEmpty emptyBag ≡ true
+empty-bag = empty-size emptyBag ∙ eq-eqb (size emptyBag) 0 (weigh-empty one)
 
 -- an empty bag weighs nothing
 pub empty-weighs : (f : ℕ → ℕ) (s : Bag) → isEmpty s ≡ true → weigh f s ≡ 0

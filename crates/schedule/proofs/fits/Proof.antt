@@ -1,5 +1,6 @@
 -- `schedule::fits` meets its contract: in each arm the event is its variant's, at which the test is that of the arm.
 use borrow.Author.Needs.{needs}
+use mathlib.Core.Path.{refl}
 use borrow.Author.Tests.{lt-ltb, le-ltb}
 use Rattle.schedule.specs.Events.{within}
 use Rattle.schedule.proofs.fits.Statement.{statement}
@@ -26,7 +27,7 @@ returns c = rw (c .before .event .given .1)
 
 returns-2 : tie.Need-returns-2
 unfolding within
-returns-2 c = rw (c .before .before .event2 .given .1, lt-ltb _ _ (c .if1 .taken))
+returns-2 c = rw (c .before .before .event2 .given .1, lt-ltb _ _ (c .if1 .taken)) refl
 
 returns-3 : tie.Need-returns-3
 unfolding within
@@ -34,7 +35,7 @@ returns-3 c = rw (c .before .before .event2 .given .1, le-ltb _ _ (c .if1 .left)
 
 returns-4 : tie.Need-returns-4
 unfolding within
-returns-4 c = rw (c .before .before .event3 .given .1, lt-ltb _ _ (c .if2 .taken))
+returns-4 c = rw (c .before .before .event3 .given .1, lt-ltb _ _ (c .if2 .taken)) refl
 
 returns-5 : tie.Need-returns-5
 unfolding within
