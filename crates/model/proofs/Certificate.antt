@@ -8,7 +8,7 @@ use native.Mathlib.Omega.{arith}
 use lib.ListN.{length}
 use lib.Seq.{ext-getD}
 use Rattle.graph.specs.Graph.{Graph}
-use Rattle.model.specs.Paths.{Joins, Walk, stay, onward, Labels, distanceOf, parentOf, Right, Certified}
+use Rattle.model.specs.Paths.{Joins, Walk, stay, onward, Labels, distanceOf, parentOf, RightResult, Certified}
 use Rattle.model.proofs.Sound.{Ground}
 use Rattle.model.proofs.Walks.{walk-below, walk-more, distance-unique}
 use Rattle.model.proofs.LabelFacts.{label-below}
@@ -44,7 +44,7 @@ module _ {g : Graph} {source : ℕ} {x : Labels} (c : Certified g source x) wher
   certified-walk (suc d) v e = let a = parent-before v d e in onward (certified-walk d (a .parent) (a .near)) (a .edge)
 
 module _ {g : Graph} {source : ℕ} (ground : Ground g source) where
-  module _ {x : Labels} (r : Right g source x) where
+  module _ {x : Labels} (r : RightResult g source x) where
     -- right labels: the end of every path is set, to no more than its links
     right-within : {v k : ℕ} → Walk g source v k → SetWithin x v k
     right-within {v} {k} w = go (distanceOf x v) refl
@@ -76,7 +76,7 @@ module _ {g : Graph} {source : ℕ} (ground : Ground g source) where
         record { value = b .0; is = rw (j .leads) at (b .1); most = omega (arith, a .most, b .2) }
 
     -- what is certified is right
-    pub certified-right : Right g source x
+    pub certified-right : RightResult g source x
     certified-right = record {
       distances-all = c .distances-all;
       parents-all = c .parents-all;
@@ -92,7 +92,7 @@ module _ {g : Graph} {source : ℕ} (ground : Ground g source) where
 
 module _ {g : Graph} {source : ℕ} where
   -- right distances are the only ones
-  pub right-unique : {x y : Labels} → Right g source x → Right g source y → x .distances ≡ y .distances
+  pub right-unique : {x y : Labels} → RightResult g source x → RightResult g source y → x .distances ≡ y .distances
   right-unique {x} {y} a b =
       ext-getD none (x .distances) (y .distances) (a .distances-all ∙ sym (b .distances-all))
       (λ v h. go v (rw (a .distances-all) at h) (distanceOf x v) (distanceOf y v) refl refl)

@@ -122,18 +122,18 @@ module _ {g : Graph} {source P d : ℕ} {x : Labels} {workers : List Worker}
   }
 
   -- the state that a close leaves, if it raises the layer
-  abbrev next : State
-  next = record { labels = x; workers = set (map handedIn workers) 0 (workerWith (unitedOutputs workers) emptyBag free); layer = suc d; finished = false }
+  abbrev raised : State
+  raised = record { labels = x; workers = set (map handedIn workers) 0 (workerWith (unitedOutputs workers) emptyBag free); layer = suc d; finished = false }
 
   -- is sound, if an output bag holds a vertex
-  next-sound : 1 ≤ P → isEmpty (unitedOutputs workers) ≡ false → Sound g source P next
+  next-sound : 1 ≤ P → isEmpty (unitedOutputs workers) ≡ false → Sound g source P raised
   next-sound p filled = let v = takenNumber (unitedOutputs workers) in record {
     labels-sound = next-labels v (united-next v (taken-held (unitedOutputs workers) filled));
     crew-sound = fresh-sound (handed-in p) united-bag (λ u e. omega (arith, l .not-far u (suc (suc d)) e)) parent-set;
   }
 
   -- and opens the next layer
-  next-opens : 1 ≤ P → LayerOpen g source P next
+  next-opens : 1 ≤ P → LayerOpen g source P raised
   next-opens p = fresh-opens (handed-in p) united-bag x false
 
   -- a vertex that has a parent is set

@@ -13,12 +13,12 @@ use Rattle.model.proofs.Sound.{LabelsSound}
 use Rattle.model.proofs.Walks.{distance-unique}
 
 -- the value that a label is set to
-pub record Value (l : Option ℕ) : Type 0 where
+pub record HasValue (l : Option ℕ) : Type 0 where
   pub value : ℕ
   pub is : l ≡ some value
 
 -- a label that is set has one
-pub set-value : (l : Option ℕ) → isSet l ≡ true → Value l
+pub set-value : (l : Option ℕ) → isSet l ≡ true → HasValue l
 set-value none e = absurd (true≢false (sym e))
 set-value (some k) e = record { value = k; is = refl }
 

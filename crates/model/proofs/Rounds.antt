@@ -164,11 +164,11 @@ module _ (g : Graph) {P : ℕ} (some-worker : 1 ≤ P) (few-workers : P ≤ maxW
           ap (λ (l : List ℕ). rounds P (l ++ rest)) opened ∙ rw starts (omega (arith, rounds-after k 1 (omega arith) rest))
 
   -- a schedule of at most so many bytes that doesn't finish has no more rounds than effective events
-  abbrev Covered : ℕ → Type 0
-  Covered most = (r : Run) (schedule : List ℕ) → length schedule ≤ most → length (r .state .workers) ≡ P → playFrom g r schedule .state .finished ≡ false
+  abbrev RoundsCovered : ℕ → Type 0
+  RoundsCovered most = (r : Run) (schedule : List ℕ) → length schedule ≤ most → length (r .state .workers) ≡ P → playFrom g r schedule .state .finished ≡ false
       → r .effective + rounds P schedule ≤ playFrom g r schedule .effective
 
-  module _ (most : ℕ) (shorter : Covered most) (r : Run) (crew : length (r .state .workers) ≡ P) where
+  module _ (most : ℕ) (shorter : RoundsCovered most) (r : Run) (crew : length (r .state .workers) ≡ P) where
     -- a byte at which no round starts
     byte-covered : (byte : ℕ) (schedule : List ℕ) → length schedule ≤ most → playFrom g (step g r byte) schedule .state .finished ≡ false
         → r .effective + rounds P schedule ≤ playFrom g (step g r byte) schedule .effective
@@ -194,7 +194,7 @@ module _ (g : Graph) {P : ℕ} (some-worker : 1 ≤ P) (few-workers : P ≤ maxW
         omega (arith, covered, ap (rounds P) apart, rounds-round rest, ap (λ (l : List ℕ). playFrom g r l .effective) apart)
 
   -- one byte more
-  more-covered : (most : ℕ) → Covered most → Covered (suc most)
+  more-covered : (most : ℕ) → RoundsCovered most → RoundsCovered (suc most)
   unfolding rounds playFrom
   more-covered most shorter r [] h crew f = omega arith
   more-covered most shorter r (byte ∷ schedule) h crew f = go (startsWith (roundBytes P) (byte ∷ schedule)) refl
@@ -207,7 +207,7 @@ module _ (g : Graph) {P : ℕ} (some-worker : 1 ≤ P) (few-workers : P ≤ maxW
           omega (arith, here, start-covered most shorter r crew (byte ∷ schedule) h f e)
 
   -- schedules of every length
-  all-covered : (most : ℕ) → Covered most
+  all-covered : (most : ℕ) → RoundsCovered most
   unfolding rounds playFrom
   all-covered zero r [] h crew f = omega arith
   all-covered zero r (byte ∷ schedule) h crew f = absurd (omega arith)

@@ -29,7 +29,7 @@ use Rattle.model.proofs.Closing.{close-sound, close-opens, close-certif
 use Rattle.model.proofs.Costs.{work-cost, split-cost, unite-cost, close-cost}
 
 -- what an effective event leaves: a sound state, an open layer if d was raised, a certified result if the search is finished, and less to pay
-record After (g : Graph) (source P : ℕ) (s t : State) : Type 0 where
+record EventLeaves (g : Graph) (source P : ℕ) (s t : State) : Type 0 where
   sound : Sound g source P t
   opens : (t .layer ≡ s .layer → ⊥) → LayerOpen g source P t
   ended : t .finished ≡ true → Certified g source (t .labels)
@@ -43,7 +43,7 @@ record Kept (g : Graph) (source P : ℕ) (s t : State) : Type 0 where
 
 -- in a search that isn't finished, with less to pay
 kept-after : {g : Graph} {source P : ℕ} {s t : State} → Kept g source P s t → s .finished ≡ false → suc (cost P g t) ≤ cost P g s
-    → After g source P s t
+    → EventLeaves g source P s t
 kept-after k live less = record {
   sound = k .sound;
   opens = λ other. absurd (other (k .same-layer));
@@ -104,7 +104,7 @@ module _ {g : Graph} {source P : ℕ} where
   -- an effective close
   closed-after : (s : State) → 1 ≤ P → Sound g source P s → allIdle (s .workers) ≡ true
       → suc (cost P g (closed s (unitedOutputs (s .workers)))) ≤ cost P g s
-      → (b : Bool) → isEmpty (unitedOutputs (s .workers)) ≡ b → After g source P s (closed s (unitedOutputs (s .workers)))
+      → (b : Bool) → isEmpty (unitedOutputs (s .workers)) ≡ b → EventLeaves g source P s (closed s (unitedOutputs (s .workers)))
   closed-after s p h idle less true e =
       let bag = unitedOutputs (s .workers) in
       let over : State = record { labels = s .labels; workers = s .workers; layer = s .layer; finished = true } in
@@ -130,12 +130,12 @@ pub record Good (g : Graph) (source P : ℕ) (r : Run) : Type 0 where
   pub ended : r .state .finished ≡ true → Certified g source (r .state .labels)
 
 -- a byte: the run stays good, and a layer that opens is opened
-pub record Next (g : Graph) (source P : ℕ) (r q : Run) : Type 0 where
+pub record ByteLeaves (g : Graph) (source P : ℕ) (r q : Run) : Type 0 where
   pub good : Good g source P q
   pub opens : (q .state .layer ≡ r .state .layer → ⊥) → LayerOpen g source P (q .state)
 
 -- a run that stays where it is, but for the bytes used
-next-same : {g : Graph} {source P : ℕ} (r q : Run) → Good g source P r → q .state ≡ r .state → q .effective ≡ r .effective → Next g source P r q
+next-same : {g : Graph} {source P : ℕ} (r q : Run) → Good g source P r → q .state ≡ r .state → q .effective ≡ r .effective → ByteLeaves g source P r q
 next-same {g} {source} {P} r q h same count =
     let good : Good g source P q = record {
       sound = rw same (h .sound);
@@ -146,7 +146,7 @@ next-same {g} {source} {P} r q h same count =
 
 module _ {g : Graph} {source : ℕ} (ground : Ground g source) {P : ℕ} (some-worker : 1 ≤ P) where
   -- an effective event
-  act-after : (s t : State) (e : Event) → Sound g source P s → s .finished ≡ false → Staffed P e → act g s e ≡ some t → After g source P s t
+  act-after : (s t : State) (e : Event) → Sound g source P s → s .finished ≡ false → Staffed P e → act g s e ≡ some t → EventLeaves g source P s t
   unfolding act
   act-after s t (Work w) h live below k = kept-after (work-kept ground s t w h below k) live (work-cost ground w h below k)
   act-after s t (Split w v) h live fits k = kept-after (split-kept s t w v h fits k) live (split-cost w v h (fits .0) (fits .1) (fits .2) k)
@@ -158,7 +158,7 @@ module _ {g : Graph} {source : ℕ} (ground : Ground g source) {P : ℕ} (some-w
 
   -- a byte whose event is met or not
   tally-next : (r : Run) (e : Event) → Good g source P r → r .state .finished ≡ false → Staffed P e
-      → (o : Option State) → act g (r .state) e ≡ o → Next g source P r (tally r o)
+      → (o : Option State) → act g (r .state) e ≡ o → ByteLeaves g source P r (tally r o)
   unfolding tally
   tally-next r e h live fits none k = next-same r (tally r none) h refl refl
   tally-next r e h live fits (some t) k =
@@ -168,6 +168,6 @@ module _ {g : Graph} {source : ℕ} (ground : Ground g source) {P : ℕ} (some-w
 
   -- a byte
   pub step-next : (r : Run) (byte : ℕ) → Good g source P r → within P (eventOf byte) ≡ true → (f : Bool) → r .state .finished ≡ f
-      → Next g source P r (step g r byte)
+      → ByteLeaves g source P r (step g r byte)
   step-next r byte h w true f = rw (step-over g r byte f) (next-same r r h refl refl)
   step-next r byte h w false f = rw (step-on g r byte f) (tally-next r (eventOf byte) h f (byte-staffed P byte (eventOf byte) refl w) _ refl)

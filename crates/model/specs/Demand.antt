@@ -12,7 +12,7 @@ use Rattle.pennant.specs.Pennant.{gap}
 use Rattle.pennant.specs.Bag.{slotCount, isEmpty, isGap}
 use Rattle.pennant.specs.Held.{size, copies}
 use Rattle.schedule.specs.Check.{anyStray}
-use Rattle.model.specs.Paths.{Distance, distanceOf, parentOf, Right}
+use Rattle.model.specs.Paths.{Distance, distanceOf, parentOf, RightResult}
 use Rattle.model.specs.State.{free, Worker, State, workerAt, openingLabels}
 use Rattle.model.specs.Play.{play, stateAt, metAt, rounds, eventBound}
 use Rattle.model.specs.Serial.{Serial}
@@ -72,7 +72,7 @@ pub record Demand (g : Graph) (source P : ℕ) (schedule : List ℕ) : Type 0 wh
   -- (d) as many full rounds as the bound, wherever they stand, finish the search
   pub enough-rounds : eventBound g P ≤ rounds P schedule → play g source P schedule .state .finished ≡ true
   -- (e) the result of a finished search is right
-  pub right-result : play g source P schedule .state .finished ≡ true → Right g source (play g source P schedule .state .labels)
+  pub right-result : play g source P schedule .state .finished ≡ true → RightResult g source (play g source P schedule .state .labels)
   -- (f) a finished run ends as a link-by-link run does, with some order of each layer's links
   pub link-by-link : play g source P schedule .state .finished ≡ true → Serial g 0 (openingLabels (length g) source) (play g source P schedule .state .labels)
   -- "The effective events reported are the number of used bytes whose condition, by that table, was met at their turn."

@@ -54,7 +54,7 @@ pub record Nearer (g : Graph) (x : Labels) (p v : ℕ) : Type 0 where
 
 -- the checker's condition: "distances are right for every device, the source is its own parent, unreached devices have an unset parent, and
 -- each other parent has a link to its device and a distance one less"
-pub record Right (g : Graph) (s : ℕ) (x : Labels) : Type 0 where
+pub record RightResult (g : Graph) (s : ℕ) (x : Labels) : Type 0 where
   pub distances-all : length (x .distances) ≡ length g
   pub parents-all : length (x .parents) ≡ length g
   pub shortest : (v d : ℕ) → v < length g → distanceOf x v ≡ some d → Distance g s v d
