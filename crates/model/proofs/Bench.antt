@@ -8,7 +8,8 @@ use Rattle.graph.specs.File.{word, wordsAt, vertexCount, edgeCount, headIndex, 
 use Rattle.graph.specs.Read.{outsideSizes, headerRefusals, scanRefusals, chainRefusals, rowsShort, clearsMarks}
 use Rattle.graph.specs.Encode.{bytesOf}
 use Rattle.pennant.specs.Pennant.{pennantUnion, pennantFirst, pennantSecond}
-use Rattle.pennant.specs.Bag.{emptyBag, insertPennant, bagInsert, insertFilled, adderSum, adderCarry, addFrom, bagUnion, splitFirst, splitSecond, spread, takeFrom, takeRest, takenNumber, isEmpty, atLeastTwo}
+use Rattle.pennant.specs.Bag.{emptyBag, insertPennant, bagInsert, insertFilled, adderSum, adderCarry, addFrom, bagUnion, splitFirst, splitSecond}
+use Rattle.pennant.specs.Bag.{spread, takeFrom, takeRest, takenNumber, isEmpty, atLeastTwo}
 use Rattle.pennant.specs.Held.{weighTree, weighSlot, weigh}
 use Rattle.schedule.specs.Events.{formOf, eventOf, within}
 use Rattle.schedule.specs.Check.{anyStray, scheduleRefusals}
@@ -20,7 +21,11 @@ use Rattle.model.specs.Bench.{Case, Expected, lentFor, answersOf, bagOf,
 
 -- each outcome is the expected one
 pub bench-cases : map (λ (c : Case × Expected). outcomeOfCase (c .0)) benchTable ≡ map (λ (c : Case × Expected). c .1) benchTable
-unfolding first overlay chainFrom numbersFrom sumsFrom elem repeats lacks reaches sumOf flatten edges offsetsOf targetsOf word wordsAt vertexCount edgeCount headIndex next heads recordTargets recordNexts chain chains reached graphOf target outsideSizes headerRefusals
-    scanRefusals chainRefusals rowsShort clearsMarks bytesOf pennantUnion pennantFirst pennantSecond emptyBag insertPennant bagInsert insertFilled adderSum adderCarry addFrom bagUnion splitFirst splitSecond spread takeFrom takeRest takenNumber isEmpty atLeastTwo weighTree weighSlot weigh formOf eventOf within anyStray
-    scheduleRefusals openingLabels openingState holdAt look mark name move afterMove splitInputs uniteOutputs isFree allIdle unitedOutputs closed act tally step playFrom play lentShort runOf inputRefusals searchRefusals searchNumber plays answerBy wordOf sweepsMarks lentAfter outcomeOfSearch lentFor answersOf bagOf outcomeOfCase benchTable
+unfolding first overlay chainFrom numbersFrom sumsFrom elem repeats lacks reaches sumOf flatten edges offsetsOf targetsOf word wordsAt vertexCount
+    edgeCount headIndex next heads recordTargets recordNexts chain chains reached graphOf target outsideSizes headerRefusals scanRefusals
+    chainRefusals rowsShort clearsMarks bytesOf pennantUnion pennantFirst pennantSecond emptyBag insertPennant bagInsert insertFilled adderSum
+    adderCarry addFrom bagUnion splitFirst splitSecond spread takeFrom takeRest takenNumber isEmpty atLeastTwo weighTree weighSlot weigh formOf
+    eventOf within anyStray scheduleRefusals openingLabels openingState holdAt look mark name move afterMove splitInputs uniteOutputs isFree
+    allIdle unitedOutputs closed act tally step playFrom play lentShort runOf inputRefusals searchRefusals searchNumber plays answerBy wordOf
+    sweepsMarks lentAfter outcomeOfSearch lentFor answersOf bagOf outcomeOfCase benchTable
 bench-cases = refl

@@ -70,7 +70,8 @@ module _ {g : Graph} {source P : ℕ} {schedule : List ℕ} (a : Accepted g sour
   unfolding stateAt
   layer-opens k below other =
       let more = play-more g source P schedule k below in
-      let next = step-next (accepted-ground a) (a .some-worker) (play g source P (take k schedule)) (getD schedule k 0) (good-at k) (stray-at P k schedule (a .formed) below) _ refl in
+      let fits = stray-at P k schedule (a .formed) below in
+      let next = step-next (accepted-ground a) (a .some-worker) (play g source P (take k schedule)) (getD schedule k 0) (good-at k) fits _ refl in
       subst (λ (r : Run). LayerOpen g source P (r .state)) (sym more) (next .opens (λ same. other (ap (λ (r : Run). r .state .layer) more ∙ same)))
 
   -- a search that isn't finished has paid less than the bound

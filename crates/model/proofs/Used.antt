@@ -47,9 +47,11 @@ module _ (g : Graph) (source P : ℕ) (schedule : List ℕ) where
       let o = act g (r .state) (eventOf (getD schedule k 0)) in
       let same : q ≡ tally r o = play-more k below ∙ step-on g r (getD schedule k 0) e in
       let used : q .used ≡ suc k = ap (λ (x : Run). x .used) same ∙ tally-counts r o .0 ∙ ap suc (t .spent e) in
+      let so-far : r .effective ≡ sumOf (metAt g source P schedule) (numbersFrom 0 k) = rw (t .spent e) at (t .counted) in
+      let one-more = rw (zero-add k) at (sum-last (metAt g source P schedule) 0 k) in
       let met : q .effective ≡ r .effective + metAt g source P schedule k = ap (λ (x : Run). x .effective) same ∙ tally-counts r o .1 in
       record {
-        counted = rw used (omega (arith, met, t .counted, ap (λ (u : ℕ). sumOf (metAt g source P schedule) (numbersFrom 0 u)) (t .spent e), rw (zero-add k) at (sum-last (metAt g source P schedule) 0 k)));
+        counted = rw used (omega (arith, met, so-far, one-more));
         spent = λ f. used;
         ended = λ f. record { place = k; last-used = used; before = e; after = f };
       }
