@@ -6,18 +6,15 @@ use Prim.Native.Nat.{ℕ}
 use lib.ListN.{replicate}
 use Rattle.numbers.specs.Refusals.{first}
 use Rattle.lists.specs.Lists.{chainFrom, numbersFrom, sumsFrom, elem, repeats, lacks, reaches}
+use Rattle.graph.specs.BenchFiles.{wordsA, wordsC, wordsE, wordsF, wordsG}
 use Rattle.graph.specs.Graph.{Graph, offsetsOf, targetsOf}
 use Rattle.graph.specs.File.{word, wordsAt, vertexCount, edgeCount, headIndex, target, next, heads, recordTargets, recordNexts, chain, chains, reached, graphOf}
 use Rattle.graph.specs.Read.{outsideSizes, headerRefusals, scanRefusals, chainRefusals, rowsShort, readRefusals, readNumber}
 use Rattle.graph.specs.Encode.{headOf, headsFrom, rowRecords, recordsFrom, fileWords, bytesOf, encode}
 
--- A: "n 4, m 4; heads 1 3 4 0; records (1,2) (2,0) (3,0) (3,0)"
-abbrev pub caseA : List ℕ
-caseA = 4 ∷ 4 ∷ 1 ∷ 3 ∷ 4 ∷ 0 ∷ 1 ∷ 2 ∷ 2 ∷ 0 ∷ 3 ∷ 0 ∷ 3 ∷ 0 ∷ []
-
 -- the words of the files of A, C, E, F and G
 abbrev pub files : List (List ℕ)
-files = caseA ∷ (1 ∷ 0 ∷ 0 ∷ []) ∷ (1 ∷ 1 ∷ 0 ∷ 0 ∷ 0 ∷ []) ∷ (1 ∷ 1 ∷ 1 ∷ 0 ∷ 1 ∷ []) ∷ (0 ∷ 0 ∷ []) ∷ []
+files = wordsA ∷ wordsC ∷ wordsE ∷ wordsF ∷ wordsG ∷ []
 
 -- the reader's number where every list has eight places
 unfoldable pub numberOf : List ℕ → ℕ
@@ -32,7 +29,7 @@ case-numbers = refl
 abbrev pub rowsA : Graph
 rowsA = (1 ∷ 2 ∷ []) ∷ (3 ∷ []) ∷ (3 ∷ []) ∷ [] ∷ []
 
-pub case-rows : graphOf (bytesOf caseA) ≡ rowsA
+pub case-rows : graphOf (bytesOf wordsA) ≡ rowsA
 unfolding bytesOf graphOf vertexCount edgeCount word chains chain headIndex next target numbersFrom chainFrom
 case-rows = refl
 
@@ -41,6 +38,6 @@ unfolding offsetsOf sumsFrom
 case-starts = refl
 
 -- and its file
-pub case-written : encode rowsA ≡ bytesOf caseA
+pub case-written : encode rowsA ≡ bytesOf wordsA
 unfolding encode fileWords headsFrom headOf recordsFrom rowRecords bytesOf targetsOf flatten
 case-written = refl

@@ -7,3 +7,4 @@ pub mod Write
 pub mod Links
 pub mod Steps
 pub mod WriteSteps
+pub mod BenchFiles

@@ -1,7 +1,8 @@
--- Lists: one laid over another, consecutive numbers, running sums, sums of a weight, chains, and tests that compute. No vertex, edge, byte or node here.
+-- Lists: one laid over another, consecutive numbers, running sums, sums of a weight, values counted as 0 or 1, chains, and tests that compute. No vertex, edge, byte or node here.
 use Prim.Native.Nat.{ℕ, zero, suc, _+_}
 use mathlib.Core.Bool.{Bool, false, not, _||_}
 use mathlib.Core.List.{List, [], _∷_, _++_}
+use mathlib.Core.Option.{Option, none, some}
 use lib.Dec.{leb, ltb, eqb}
 use lib.ListN.{length, drop}
 
@@ -48,6 +49,11 @@ fallsFrom x (y ∷ ys) = ltb y x || fallsFrom y ys
 unfoldable pub sumOf : {A : Type 0} → (A → ℕ) → List A → ℕ
 sumOf f [] = 0
 sumOf f (x ∷ xs) = f x + sumOf f xs
+
+-- 1 for a value that is there, 0 for none
+abbrev pub someOne : {A : Type 0} → Option A → ℕ
+someOne none = 0
+someOne (some x) = 1
 
 -- "zero ends the chain": x, what is next after it, and so on, at most so many
 unfoldable pub chainFrom : (ℕ → ℕ) → ℕ → ℕ → List ℕ

@@ -10,14 +10,14 @@ use Rattle.graph.specs.Encode.{bytesOf}
 use Rattle.pennant.specs.Pennant.{pennantUnion, pennantFirst, pennantSecond}
 use Rattle.pennant.specs.Bag.{emptyBag, insertPennant, bagInsert, insertFilled, adderSum, adderCarry, addFrom, bagUnion, splitFirst, splitSecond}
 use Rattle.pennant.specs.Bag.{spread, takeFrom, takeRest, takenNumber, isEmpty, atLeastTwo}
-use Rattle.pennant.specs.Held.{weighTree, weighSlot, weigh}
+use Rattle.pennant.specs.Held.{weighTree, weighSlot, weigh, upTo}
 use Rattle.schedule.specs.Events.{formOf, eventOf, within}
 use Rattle.schedule.specs.Check.{anyStray, scheduleRefusals}
 use Rattle.model.specs.State.{openingLabels, openingState}
 use Rattle.model.specs.Table.{holdAt, look, mark, name, move, afterMove, splitInputs, uniteOutputs, isFree, allIdle, unitedOutputs, closed, act}
 use Rattle.model.specs.Play.{tally, step, playFrom, play}
 use Rattle.model.specs.Call.{lentShort, runOf, inputRefusals, searchRefusals, searchNumber, plays, answerBy, wordOf, sweepsMarks, lentAfter, outcomeOfSearch}
-use Rattle.model.specs.Bench.{Case, Expected, lentFor, answersOf, bagOf, outcomeOfCase, benchTable}
+use Rattle.model.specs.Bench.{Case, Expected, lentFor, answersOf, outcomeOfCase, benchTable}
 
 -- each outcome is the expected one
 pub bench-cases : map (λ (c : Case × Expected). outcomeOfCase (c .0)) benchTable ≡ map (λ (c : Case × Expected). c .1) benchTable
@@ -27,5 +27,5 @@ unfolding first overlay chainFrom numbersFrom sumsFrom elem repeats lacks reache
     adderCarry addFrom bagUnion splitFirst splitSecond spread takeFrom takeRest takenNumber isEmpty atLeastTwo weighTree weighSlot weigh formOf
     eventOf within anyStray scheduleRefusals openingLabels openingState holdAt look mark name move afterMove splitInputs uniteOutputs isFree
     allIdle unitedOutputs closed act tally step playFrom play lentShort runOf inputRefusals searchRefusals searchNumber plays answerBy wordOf
-    sweepsMarks lentAfter outcomeOfSearch lentFor answersOf bagOf outcomeOfCase benchTable
+    sweepsMarks lentAfter outcomeOfSearch lentFor answersOf upTo outcomeOfCase benchTable
 bench-cases = refl

@@ -8,17 +8,18 @@ use Prim.Native.Nat.{ℕ, suc, _≤_, _<_}
 use native.Mathlib.Decide.{decLe, ℕ-discrete}
 use native.Mathlib.Omega.{arith}
 use lib.Dec.{leb, ltb}
-use lib.ListN.{length, set, length-map, List·getD-map}
+use lib.ListN.{length, length-map, List·getD-map}
 use borrow.Author.Tests.{ltb-true, ltb-false, leb-true, leb-false}
+use Rattle.lists.specs.Lists.{someOne}
 use Rattle.graph.specs.Graph.{Graph, edges}
-use Rattle.pennant.specs.Bag.{emptyBag, takenNumber, isEmpty}
+use Rattle.pennant.specs.Bag.{takenNumber, isEmpty}
 use Rattle.pennant.specs.Held.{only, copies}
 use Rattle.pennant.proofs.Laws.{empty-bag, empty-weighs, taken-held, shaped-empty}
 use Rattle.model.specs.Paths.{edgeTarget, Walk, stay, Distance, Labels, distanceOf, parentOf, isSet, Certified}
-use Rattle.model.specs.State.{free, Worker, workerWith, idleWorker, State, workerAt}
-use Rattle.model.specs.Table.{allIdle, unitedOutputs, handedIn, closed}
+use Rattle.model.specs.State.{free, Worker, idleWorker, State, workerAt}
+use Rattle.model.specs.Table.{allIdle, unitedOutputs, handedIn, raisedState, closed}
 use Rattle.model.specs.Demand.{LayerOpen}
-use Rattle.model.proofs.Counts.{setOne, handOf, namingOf, atOf, outputs}
+use Rattle.model.proofs.Counts.{handOf, namingOf, atOf, outputs}
 use Rattle.model.proofs.Sound.{LabelsSound, CrewSound, Sound}
 use Rattle.model.proofs.Walks.{walk-more, walk-last, distance-source}
 use Rattle.model.proofs.LabelFacts.{not-both, set-value, one-set, label-is}
@@ -65,7 +66,7 @@ module _ {g : Graph} {source P d : ℕ} {x : Labels} {workers : List Worker}
   next-labelled v far = label-is l v (suc d) (next-set v (suc d) (far .walk) (omega arith)) far
 
   -- every vertex that is set has its parent
-  parent-set : (v : ℕ) → isSet (distanceOf x v) ≡ true → 1 ≤ setOne (parentOf x v)
+  parent-set : (v : ℕ) → isSet (distanceOf x v) ≡ true → 1 ≤ someOne (parentOf x v)
   parent-set v e = omega (arith, c .parented v e, none-busy workers all-free (namingOf v) refl)
 
   -- the united bag holds what the output bags hold
@@ -123,7 +124,7 @@ module _ {g : Graph} {source P d : ℕ} {x : Labels} {workers : List Worker}
 
   -- the state that a close leaves, if it raises the layer
   abbrev raised : State
-  raised = record { labels = x; workers = set (map handedIn workers) 0 (workerWith (unitedOutputs workers) emptyBag free); layer = suc d; finished = false }
+  raised = raisedState (record { labels = x; workers = workers; layer = d; finished = false }) (unitedOutputs workers)
 
   -- is sound, if an output bag holds a vertex
   next-sound : 1 ≤ P → isEmpty (unitedOutputs workers) ≡ false → Sound g source P raised

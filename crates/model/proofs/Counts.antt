@@ -9,12 +9,7 @@ use Rattle.lists.specs.Lists.{sumOf}
 use Rattle.pennant.specs.Held.{only, copies}
 use Rattle.model.specs.State.{Phase, free, holding, inHand, marked, named, Worker}
 
--- 1 for a label that is set
-abbrev pub setOne : Option ℕ → ℕ
-setOne none = 0
-setOne (some x) = 1
-
--- 1 for an unset one
+-- 1 for an unset label
 abbrev pub unsetOne : Option ℕ → ℕ
 unsetOne none = 1
 unsetOne (some x) = 0

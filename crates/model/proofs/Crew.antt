@@ -8,7 +8,7 @@ use Prim.Native.Nat.{ℕ, suc, _+_, _≤_, _<_}
 use native.Mathlib.Decide.{decLe}
 use native.Mathlib.Omega.{arith}
 use lib.ListN.{length, set, length-set}
-use Rattle.lists.specs.Lists.{sumOf}
+use Rattle.lists.specs.Lists.{sumOf, someOne}
 use Rattle.lists.proofs.Sums.{sum-set, sum-at, sum-two, sum-within}
 use Rattle.lists.proofs.Replaced.{length-two, each-set}
 use Rattle.graph.specs.Graph.{Graph, edges}
@@ -19,7 +19,7 @@ use Rattle.pennant.proofs.Laws.{shaped-empty, shaped-union, shaped-first, shape
 use Rattle.model.specs.Paths.{edgeTarget, Distance, Labels, distanceOf, parentOf, isSet}
 use Rattle.model.specs.State.{Phase, free, holding, inHand, marked, named, Worker, workerWith, idleWorker, workerAt}
 use Rattle.model.specs.Table.{splitInputs, uniteOutputs}
-use Rattle.model.proofs.Counts.{setOne, handOf, namingOf, atOf, inputs, outputs, hands, namings, ats}
+use Rattle.model.proofs.Counts.{handOf, namingOf, atOf, inputs, outputs, hands, namings, ats}
 use Rattle.model.proofs.LabelFacts.{set-kept}
 use Rattle.model.proofs.Sound.{PhaseSound, WorkerSound, CrewSound, Moves}
 
@@ -77,7 +77,7 @@ module _ {g : Graph} {source : ℕ} where
 
     -- every edge of this layer is still to be looked at, or its target is set
     covered-kept : (u i : ℕ) → Distance g source u d → i < length (edges g u)
-        → 1 ≤ inputs u (set workers w y) + ats u i (set workers w y) + setOne (distanceOf b (edgeTarget g u i))
+        → 1 ≤ inputs u (set workers w y) + ats u i (set workers w y) + someOne (distanceOf b (edgeTarget g u i))
     covered-kept u i far there =
         let target-set = set-kept (distanceOf a (edgeTarget g u i)) (distanceOf b (edgeTarget g u i)) (m .keeps (edgeTarget g u i)) in
         omega (arith, inputs-change u, phases-change (atOf u i) refl, m .edges-kept u i there, c .covered u i far there)
@@ -95,7 +95,7 @@ module _ {g : Graph} {source : ℕ} where
     few-kept v = elim (m .copies-added v) [
       | inl same ↦ omega (arith, outputs-change v, phases-change (handOf v) refl, c .few-outputs v)
       | inr added ↦ elim (decLe 1 (outputs v workers)) [
-        | yes held ↦ absurd (omega (arith, ap setOne (sym (added .0) ∙ c .output-next v held)))
+        | yes held ↦ absurd (omega (arith, ap someOne (sym (added .0) ∙ c .output-next v held)))
         | no away ↦ omega (
           arith,
           outputs-change v,
@@ -106,10 +106,10 @@ module _ {g : Graph} {source : ℕ} where
     ]
 
     -- every vertex that is set has a parent or is about to be named
-    parented-kept : (v : ℕ) → isSet (distanceOf b v) ≡ true → 1 ≤ namings v (set workers w y) + setOne (parentOf b v)
+    parented-kept : (v : ℕ) → isSet (distanceOf b v) ≡ true → 1 ≤ namings v (set workers w y) + someOne (parentOf b v)
     parented-kept v is = go (distanceOf a v) refl
       where
-        go : (l : Option ℕ) → distanceOf a v ≡ l → 1 ≤ namings v (set workers w y) + setOne (parentOf b v)
+        go : (l : Option ℕ) → distanceOf a v ≡ l → 1 ≤ namings v (set workers w y) + someOne (parentOf b v)
         go none e = omega (arith, phases-change (namingOf v) refl, m .newly-set v e is)
         go (some k) e = elim (m .parents-kept v) [
           | inl kept ↦ omega (arith, phases-change (namingOf v) refl, c .parented v (rw e refl))

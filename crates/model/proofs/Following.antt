@@ -82,10 +82,10 @@ module _ (g : Graph) (x : Labels) (d : ℕ) where
   is-tree {e} h = rw (is-at (suc d) (h .far)) (is-at (e .start) (h .named))
 
   -- the labels z after links of the tree from the labels y: still on the way, nothing unset again, and the links' ends set
-  pub record Followed (y : Labels) (links : List EdgeAt) (z : Labels) : Type 0 where
+  pub record Followed (y : Labels) (list : List EdgeAt) (z : Labels) : Type 0 where
     pub partly : Partly x d z
     pub stays : (v k : ℕ) → distanceOf y v ≡ some k → distanceOf z v ≡ some k
-    pub reached : (e : EdgeAt) → List·Memᴰ e links → distanceOf z (end e) ≡ some (suc d)
+    pub reached : (e : EdgeAt) → List·Memᴰ e list → distanceOf z (end e) ≡ some (suc d)
 
   -- one link of the tree
   follow-one : (y : Labels) (e : EdgeAt) → Partly x d y → TreeEdge e → Followed y (e ∷ []) (follow g d y e)
@@ -129,12 +129,12 @@ module _ (g : Graph) (x : Labels) (d : ℕ) where
       }
 
   -- many of them
-  pub follow-tree : (y : Labels) (links : List EdgeAt) → Partly x d y → ((e : EdgeAt) → List·Memᴰ e links → TreeEdge e)
-      → Followed y links (foldl (follow g d) y links)
+  pub follow-tree : (y : Labels) (list : List EdgeAt) → Partly x d y → ((e : EdgeAt) → List·Memᴰ e list → TreeEdge e)
+      → Followed y list (foldl (follow g d) y list)
   follow-tree y [] p h = record { partly = p; stays = λ v k r. r; reached = λ e m. absurd (List·Memᴰ·not-nil m) }
-  follow-tree y (e ∷ links) p h =
+  follow-tree y (e ∷ list) p h =
       let one = follow-one y e p (h e (List·Memᴰ·head refl)) in
-      let rest = follow-tree (follow g d y e) links (one .partly) (λ f m. h f (List·Memᴰ·tail m)) in
+      let rest = follow-tree (follow g d y e) list (one .partly) (λ f m. h f (List·Memᴰ·tail m)) in
       record {
         partly = rest .partly;
         stays = λ v k r. rest .stays v k (one .stays v k r);
@@ -142,16 +142,16 @@ module _ (g : Graph) (x : Labels) (d : ℕ) where
       }
     where
       after : Labels
-      after = foldl (follow g d) (follow g d y e) links
+      after = foldl (follow g d) (follow g d y e) list
 
-      go : (f : EdgeAt) → distanceOf (follow g d y e) (end e) ≡ some (suc d) → Followed (follow g d y e) links after
-          → (f ≡ e) ⊎ List·Memᴰ f links → distanceOf after (end f) ≡ some (suc d)
+      go : (f : EdgeAt) → distanceOf (follow g d y e) (end e) ≡ some (suc d) → Followed (follow g d y e) list after
+          → (f ≡ e) ⊎ List·Memᴰ f list → distanceOf after (end f) ≡ some (suc d)
       go f now rest (inl q) = rw q (rest .stays (end e) (suc d) now)
       go f now rest (inr m) = rest .reached f m
 
   -- links whose ends are set change nothing
-  pub follow-rest : (y : Labels) (links : List EdgeAt) → ((e : EdgeAt) → List·Memᴰ e links → isSet (distanceOf y (end e)) ≡ true)
-      → foldl (follow g d) y links ≡ y
+  pub follow-rest : (y : Labels) (list : List EdgeAt) → ((e : EdgeAt) → List·Memᴰ e list → isSet (distanceOf y (end e)) ≡ true)
+      → foldl (follow g d) y list ≡ y
   unfolding follow
   follow-rest y [] h = refl
-  follow-rest y (e ∷ links) h = rw (h e (List·Memᴰ·head refl)) (follow-rest y links (λ f m. h f (List·Memᴰ·tail m)))
+  follow-rest y (e ∷ list) h = rw (h e (List·Memᴰ·head refl)) (follow-rest y list (λ f m. h f (List·Memᴰ·tail m)))

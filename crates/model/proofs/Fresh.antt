@@ -7,7 +7,7 @@ use Prim.Native.Nat.{ℕ, suc, _≤_, _<_}
 use native.Mathlib.Omega.{arith}
 use lib.ListN.{length, set, length-set}
 use lib.Seq.{getD-set-same, getD-set-other}
-use Rattle.lists.specs.Lists.{sumOf}
+use Rattle.lists.specs.Lists.{sumOf, someOne}
 use Rattle.lists.proofs.Sums.{sum-none, sum-first}
 use Rattle.lists.proofs.Replaced.{each-set}
 use Rattle.graph.specs.Graph.{Graph}
@@ -17,7 +17,7 @@ use Rattle.pennant.proofs.Laws.{empty-bag, empty-weighs, shaped-empty}
 use Rattle.model.specs.Paths.{Distance, Labels, distanceOf, parentOf, isSet}
 use Rattle.model.specs.State.{Phase, free, Worker, workerWith, idleWorker, workerAt}
 use Rattle.model.specs.Demand.{LayerOpen}
-use Rattle.model.proofs.Counts.{setOne, handOf, inputs}
+use Rattle.model.proofs.Counts.{handOf, inputs}
 use Rattle.model.proofs.Workers.{Idle, idle-worker}
 use Rattle.model.proofs.Sound.{WorkerSound, CrewSound}
 
@@ -99,7 +99,7 @@ module _ {g : Graph} {source P d : ℕ} {spares : List Worker} {bag : Bag} (spar
 
   -- the crew is sound, if no vertex is set for the next layer yet and each that is set has a parent
   pub fresh-sound : {x : Labels} → ((v : ℕ) → distanceOf x v ≡ some (suc d) → ⊥)
-      → ((v : ℕ) → isSet (distanceOf x v) ≡ true → 1 ≤ setOne (parentOf x v)) → CrewSound g source P d x fresh
+      → ((v : ℕ) → isSet (distanceOf x v) ≡ true → 1 ≤ someOne (parentOf x v)) → CrewSound g source P d x fresh
   fresh-sound {x} none-next parented = record {
     crew = length-set spares 0 filled ∙ spare .crew;
     each = each-fresh (WorkerSound g source d x)

@@ -5,10 +5,10 @@ use mathlib.Core.Option.{Option, none, some}
 use Prim.Native.Nat.{ℕ, _≤_, _<_}
 use native.Mathlib.Omega.{arith}
 use lib.ListN.{length}
+use Rattle.lists.specs.Lists.{someOne}
 use Rattle.lists.proofs.Parts.{place-below}
 use Rattle.graph.specs.Graph.{Graph}
 use Rattle.model.specs.Paths.{Distance, Labels, distanceOf, isSet}
-use Rattle.model.proofs.Counts.{setOne}
 use Rattle.model.proofs.Sound.{LabelsSound}
 use Rattle.model.proofs.Walks.{distance-unique}
 
@@ -23,12 +23,12 @@ set-value none e = absurd (true≢false (sym e))
 set-value (some k) e = record { value = k; is = refl }
 
 -- and counts 1
-pub set-one : (l : Option ℕ) → isSet l ≡ true → setOne l ≡ 1
+pub set-one : (l : Option ℕ) → isSet l ≡ true → someOne l ≡ 1
 set-one none e = absurd (true≢false (sym e))
 set-one (some k) e = refl
 
 -- and the other way
-pub one-set : (l : Option ℕ) → 1 ≤ setOne l → isSet l ≡ true
+pub one-set : (l : Option ℕ) → 1 ≤ someOne l → isSet l ≡ true
 one-set none h = absurd (omega arith)
 one-set (some k) h = refl
 
@@ -42,7 +42,7 @@ pub not-both : {R : Type 0} {l : Option ℕ} → l ≡ none → isSet l ≡ true
 not-both e s = absurd (true≢false (sym (rw e at s)))
 
 -- a label that stays as it is set counts no less afterwards
-pub set-kept : (l m : Option ℕ) → ((k : ℕ) → l ≡ some k → m ≡ some k) → setOne l ≤ setOne m
+pub set-kept : (l m : Option ℕ) → ((k : ℕ) → l ≡ some k → m ≡ some k) → someOne l ≤ someOne m
 set-kept none m keeps = omega arith
 set-kept (some k) m keeps = rw (keeps k refl) (omega arith)
 

@@ -49,20 +49,20 @@ pub record InLayer (g : Graph) (d : ℕ) (y : Labels) (e : EdgeAt) : Type 0 wher
 
 module _ (g : Graph) (d : ℕ) (y : Labels) where
   -- the links of the layer that start at u, if any
-  linksAt : ℕ → List EdgeAt
-  linksAt u = cond (isAt d (distanceOf y u)) (edgesFrom g u) []
+  edgesAt : ℕ → List EdgeAt
+  edgesAt u = cond (isAt d (distanceOf y u)) (edgesFrom g u) []
 
   -- a link that starts so is among the layer's links
   pub layer-has : (e : EdgeAt) → e .start < length g → InLayer g d y e → List·Memᴰ e (layerEdges g d y)
-  unfolding layerEdges edgesFrom linksAt
+  unfolding layerEdges edgesFrom edgesAt
   layer-has e below h =
       let inside : List·Memᴰ e (edgesFrom g (e .start)) = Memᴰ·map (λ (i : ℕ). record { start = e .start; place = i }) (range-in (h .there)) in
-      in-rows linksAt (range-in below) (rw (linksAt, is-at d (h .from)) inside)
+      in-rows edgesAt (range-in below) (rw (edgesAt, is-at d (h .from)) inside)
 
   -- and every one of them starts so
   pub layer-only : (e : EdgeAt) → List·Memᴰ e (layerEdges g d y) → InLayer g d y e
-  unfolding layerEdges edgesFrom linksAt
-  layer-only e m = let r = row-of linksAt (numbersFrom 0 (length g)) m in go (r .row) (isAt d (distanceOf y (r .row))) refl (r .inside)
+  unfolding layerEdges edgesFrom edgesAt
+  layer-only e m = let r = row-of edgesAt (numbersFrom 0 (length g)) m in go (r .row) (isAt d (distanceOf y (r .row))) refl (r .inside)
     where
       go : (u : ℕ) (b : Bool) → isAt d (distanceOf y u) ≡ b → List·Memᴰ e (cond b (edgesFrom g u) []) → InLayer g d y e
       go u true q n =

@@ -8,6 +8,7 @@ use native.Mathlib.Omega.{arith}
 use lib.Dec.{eqb, leb}
 use lib.ListN.{length}
 use borrow.Author.Tests.{leb-true, leb-false, eqb-true, eq-eqb, ne-eqb, le-leb}
+use Rattle.lists.specs.Lists.{someOne}
 use Rattle.lists.proofs.Tests.{test-within}
 use Rattle.graph.specs.Graph.{Graph, edges}
 use Rattle.pennant.specs.Bag.{Bag, bagInsert, takeRest, takenNumber, isEmpty}
@@ -16,7 +17,7 @@ use Rattle.pennant.proofs.Laws.{weigh-insert, weigh-rest, only-self, taken-held
 use Rattle.model.specs.Paths.{edgeTarget, Distance, Labels, distanceOf, parentOf, isSet}
 use Rattle.model.specs.State.{Phase, free, holding, inHand, marked, named, Worker, workerWith}
 use Rattle.model.specs.Table.{holdAt, look, mark, name, move, moveOf}
-use Rattle.model.proofs.Counts.{setOne, handOf, namingOf, atOf}
+use Rattle.model.proofs.Counts.{handOf, namingOf, atOf}
 use Rattle.model.proofs.Sound.{Ground, LabelsSound, PhaseSound, WorkerSound, Moves}
 use Rattle.model.proofs.LabelFacts.{set-one, unset-none, not-both}
 use Rattle.model.proofs.Workers.{hold-cases}
@@ -37,12 +38,12 @@ module _ (g : Graph) where
 
   -- a worker that passes on from edge i, whose target is set, leaves no edge whose target isn't
   passes : (a : Labels) (u i v j : ℕ) → isSet (distanceOf a (edgeTarget g u i)) ≡ true → j < length (edges g v)
-      → atOf v j (holding u i) ≤ atOf v j (holdAt g u (suc i)) + setOne (distanceOf a (edgeTarget g v j))
+      → atOf v j (holding u i) ≤ atOf v j (holdAt g u (suc i)) + someOne (distanceOf a (edgeTarget g v j))
   passes a u i v j set there = test-within (eqb u v && leb i j) _ (λ q.
       let both = and-eq-true-iff (eqb u v) (leb i j) .0 q in
       go (leb (suc i) j) refl (eqb-true u v (both .0)) (leb-true i j (both .1)))
     where
-      go : (b : Bool) → leb (suc i) j ≡ b → u ≡ v → i ≤ j → 1 ≤ atOf v j (holdAt g u (suc i)) + setOne (distanceOf a (edgeTarget g v j))
+      go : (b : Bool) → leb (suc i) j ≡ b → u ≡ v → i ≤ j → 1 ≤ atOf v j (holdAt g u (suc i)) + someOne (distanceOf a (edgeTarget g v j))
       go true q same before = omega (arith, hold-at u (suc i) v j same (leb-true (suc i) j q) there)
       go false q same before =
           let here : i ≡ j = omega (arith, leb-false (suc i) j q) in
@@ -59,7 +60,7 @@ module _ {g : Graph} {source d : ℕ} {a : Labels} where
       → ((v : ℕ) → copies v input ≤ copies v (x .input))
       → ((v : ℕ) → 1 ≤ copies v output → (1 ≤ copies v (x .output)) ⊎ (distanceOf a v ≡ some (suc d)))
       → ((v j : ℕ) → j < length (edges g v)
-      → copies v (x .input) + atOf v j (x .phase) ≤ copies v input + atOf v j (holdAt g u i) + setOne (distanceOf a (edgeTarget g v j)))
+      → copies v (x .input) + atOf v j (x .phase) ≤ copies v input + atOf v j (holdAt g u i) + someOne (distanceOf a (edgeTarget g v j)))
       → ((v : ℕ) → copies v output ≡ copies v (x .output) + handOf v (x .phase))
       → ((v : ℕ) → namingOf v (x .phase) ≡ 0)
       → Moves g source d a a x (workerWith input output (holdAt g u i))

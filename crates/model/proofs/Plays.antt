@@ -6,6 +6,7 @@ use mathlib.Core.Option.{Option, none, some, Option·none-ne-some}
 use Prim.Native.Nat.{ℕ, suc, _+_, _≤_}
 use native.Mathlib.Omega.{arith}
 use lib.ListN.{length, length-set, length-map}
+use Rattle.lists.specs.Lists.{someOne}
 use Rattle.lists.proofs.Replaced.{length-two}
 use Rattle.graph.specs.Graph.{Graph}
 use Rattle.pennant.specs.Bag.{Bag, isEmpty}
@@ -14,7 +15,7 @@ use Rattle.schedule.specs.declared.Event.the-variants.{Work, Split, Unite, Clos
 use Rattle.schedule.specs.Events.{eventOf}
 use Rattle.model.specs.State.{State}
 use Rattle.model.specs.Table.{splitInputs, uniteOutputs, unitedOutputs, closed, act, handedIn}
-use Rattle.model.specs.Play.{Run, tally, step, playFrom, metOne}
+use Rattle.model.specs.Play.{Run, tally, step, playFrom}
 use Rattle.model.proofs.Workers.{work-met, split-met, unite-met, close-met}
 
 -- No event adds or removes a worker.
@@ -58,7 +59,7 @@ step-crew g r byte true e = ap (λ (q : Run). length (q .state .workers)) (step-
 step-crew g r byte false e = ap (λ (q : Run). length (q .state .workers)) (step-on g r byte e) ∙ tally-crew g r (eventOf byte) _ refl
 
 -- a tally uses one byte, and counts it where its condition is met
-pub tally-counts : (r : Run) (o : Option State) → (tally r o .used ≡ suc (r .used)) × (tally r o .effective ≡ r .effective + metOne o)
+pub tally-counts : (r : Run) (o : Option State) → (tally r o .used ≡ suc (r .used)) × (tally r o .effective ≡ r .effective + someOne o)
 unfolding tally
 tally-counts r none = (refl, omega arith)
 tally-counts r (some t) = (refl, omega arith)

@@ -81,27 +81,27 @@ module _ {g : Graph} {source : ℕ} {x : Labels} (c : Certified g source x) wher
 
   -- the order in which a layer's links are taken: first those of the tree
   orderOf : ℕ → Labels → List EdgeAt
-  orderOf d y = let links = layerEdges g d y in keep (isTree g x d) links ++ keep (λ (e : EdgeAt). not (isTree g x d e)) links
+  orderOf d y = let list = layerEdges g d y in keep (isTree g x d) list ++ keep (λ (e : EdgeAt). not (isTree g x d e)) list
 
   -- it leads from distance d to d + 1
   layer-partly : (d : ℕ) (y : Labels) → Partly x d y → Partly x (suc d) (foldl (follow g d) y (orderOf d y))
   unfolding orderOf
   layer-partly d y p = rw (foldl-append (follow g d) y first rest, follow-rest g x d z rest rest-set) (raise (done .partly) (suc d) next-set)
     where
-      links : List EdgeAt
-      links = layerEdges g d y
+      list : List EdgeAt
+      list = layerEdges g d y
 
       first : List EdgeAt
-      first = keep (isTree g x d) links
+      first = keep (isTree g x d) list
 
       rest : List EdgeAt
-      rest = keep (λ (e : EdgeAt). not (isTree g x d e)) links
+      rest = keep (λ (e : EdgeAt). not (isTree g x d e)) list
 
       z : Labels
       z = foldl (follow g d) y first
 
       done : Followed g x d y first z
-      done = follow-tree g x d y first p (λ e m. tree-is g x d e (kept (isTree g x d) links m .1))
+      done = follow-tree g x d y first p (λ e m. tree-is g x d e (kept (isTree g x d) list m .1))
 
       next-set : (v k : ℕ) → distanceOf x v ≡ some k → k ≤ suc d → distanceOf z v ≡ some k
       next-set v k e l = go (ℕ-discrete k (suc d))
@@ -112,13 +112,13 @@ module _ {g : Graph} {source : ℕ} {x : Labels} (c : Certified g source x) wher
               let f : EdgeAt = record { start = a .parent; place = a .edge .place } in
               let by-it : TreeEdge g x d f = record { far = rw (a .edge .leads, ← q) e; named = rw (a .edge .leads) (a .named) } in
               let starts : InLayer g d y f = record { from = near-set p (a .parent) d (a .near) (omega arith); there = a .edge .there } in
-              let among : List·Memᴰ f links = layer-has g d y f (label-below x (a .parent) (c .distances-all) (a .near)) starts in
+              let among : List·Memᴰ f list = layer-has g d y f (label-below x (a .parent) (c .distances-all) (a .near)) starts in
               rw (a .edge .leads, ← q) at (done .reached f (keeps (isTree g x d) among (is-tree g x d by-it)))
           go (no q) = near-set (done .partly) v k e (omega arith)
 
       rest-set : (e : EdgeAt) → List·Memᴰ e rest → isSet (distanceOf z (edgeTarget g (e .start) (e .place))) ≡ true
       rest-set e m =
-          let l = layer-only g d y e (kept (λ (f : EdgeAt). not (isTree g x d f)) links m .0) in
+          let l = layer-only g d y e (kept (λ (f : EdgeAt). not (isTree g x d f)) list m .0) in
           let here : distanceOf x (e .start) ≡ some d = set-final p (e .start) d (l .from) in
           let r = c .onward (e .start) d (e .place) (label-below x (e .start) (c .distances-all) here) here (l .there) in
           rw (next-set (edgeTarget g (e .start) (e .place)) (r .0) (r .1) (r .2)) refl

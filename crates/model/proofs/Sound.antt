@@ -6,12 +6,12 @@ use mathlib.Core.Option.{none, some}
 use mathlib.Core.Logic.{_⊎_}
 use Prim.Native.Nat.{ℕ, suc, _+_, _≤_, _<_}
 use lib.ListN.{length}
-use Rattle.lists.specs.Lists.{reaches}
+use Rattle.lists.specs.Lists.{reaches, someOne}
 use Rattle.graph.specs.Graph.{Graph, edges, targetsOf}
 use Rattle.pennant.specs.Held.{copies, Shaped}
 use Rattle.model.specs.Paths.{edgeTarget, Walk, Distance, Labels, distanceOf, parentOf, isSet, Nearer}
 use Rattle.model.specs.State.{Phase, free, holding, inHand, marked, named, Worker, State, workerAt}
-use Rattle.model.proofs.Counts.{setOne, unsets, handOf, namingOf, atOf, inputs, outputs, hands, namings, ats}
+use Rattle.model.proofs.Counts.{unsets, handOf, namingOf, atOf, inputs, outputs, hands, namings, ats}
 
 -- a graph whose targets are vertices, and a source that is one
 pub record Ground (g : Graph) (source : ℕ) : Type 0 where
@@ -76,14 +76,14 @@ module _ (g : Graph) (source : ℕ) where
     -- output bags hold vertices that are set for the next one
     pub output-next : (v : ℕ) → 1 ≤ outputs v workers → distanceOf x v ≡ some (suc d)
     -- every edge of this layer is still to be looked at, or its target is set
-    pub covered : (u i : ℕ) → Distance g source u d → i < length (edges g u) → 1 ≤ inputs u workers + ats u i workers + setOne (distanceOf x (edgeTarget g u i))
+    pub covered : (u i : ℕ) → Distance g source u d → i < length (edges g u) → 1 ≤ inputs u workers + ats u i workers + someOne (distanceOf x (edgeTarget g u i))
     -- every vertex set for the next layer is in an output bag or on its way there
     pub stowed : (v : ℕ) → distanceOf x v ≡ some (suc d) → 1 ≤ outputs v workers + hands v workers
     -- at most P copies
     pub few-outputs : (v : ℕ) → outputs v workers + hands v workers ≤ P
     pub few-inputs : (v : ℕ) → inputs v workers ≤ P
     -- every vertex that is set has a parent or is about to be named
-    pub parented : (v : ℕ) → isSet (distanceOf x v) ≡ true → 1 ≤ namings v workers + setOne (parentOf x v)
+    pub parented : (v : ℕ) → isSet (distanceOf x v) ≡ true → 1 ≤ namings v workers + someOne (parentOf x v)
 
   -- the invariant of a state
   pub record Sound (P : ℕ) (s : State) : Type 0 where
@@ -101,7 +101,7 @@ module _ (g : Graph) (source : ℕ) where
     pub outputs-set : (v : ℕ) → 1 ≤ copies v (y .output) → (1 ≤ copies v (x .output)) ⊎ (distanceOf b v ≡ some (suc d))
     -- an edge that was still to be looked at still is, or its target is set
     pub edges-kept : (u i : ℕ) → i < length (edges g u)
-        → copies u (x .input) + atOf u i (x .phase) ≤ copies u (y .input) + atOf u i (y .phase) + setOne (distanceOf b (edgeTarget g u i))
+        → copies u (x .input) + atOf u i (x .phase) ≤ copies u (y .input) + atOf u i (y .phase) + someOne (distanceOf b (edgeTarget g u i))
     -- no copy in the output bag or in hand is lost
     pub copies-kept : (v : ℕ) → copies v (x .output) + handOf v (x .phase) ≤ copies v (y .output) + handOf v (y .phase)
     -- a vertex that becomes set is in this worker's hand
@@ -110,5 +110,5 @@ module _ (g : Graph) (source : ℕ) where
     pub copies-added : (v : ℕ) → (copies v (y .output) + handOf v (y .phase) ≡ copies v (x .output) + handOf v (x .phase))
         ⊎ ((distanceOf a v ≡ none) × (copies v (y .output) ≡ copies v (x .output)))
     -- a vertex with a parent, or about to be named, stays so
-    pub parents-kept : (v : ℕ) → namingOf v (x .phase) + setOne (parentOf a v) ≤ namingOf v (y .phase) + setOne (parentOf b v)
-        ⊎ (1 ≤ setOne (parentOf b v))
+    pub parents-kept : (v : ℕ) → namingOf v (x .phase) + someOne (parentOf a v) ≤ namingOf v (y .phase) + someOne (parentOf b v)
+        ⊎ (1 ≤ someOne (parentOf b v))

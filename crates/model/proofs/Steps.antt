@@ -16,11 +16,11 @@ use Rattle.schedule.specs.Events.{eventOf, within}
 use Rattle.schedule.proofs.Bytes.{Staffed, byte-staffed}
 use Rattle.model.specs.Paths.{Distance, Labels, Certified}
 use Rattle.model.specs.State.{Worker, idleWorker, State, workerAt}
-use Rattle.model.specs.Table.{replaceWorkers, splitInputs, uniteOutputs, allIdle, unitedOutputs, closed, act}
+use Rattle.model.specs.Table.{movedState, endedState, replaceWorkers, splitInputs, uniteOutputs, allIdle, unitedOutputs, closed, act}
 use Rattle.model.specs.Play.{Run, tally, step, eventBound}
 use Rattle.model.specs.Demand.{LayerOpen}
 use Rattle.model.proofs.Sound.{Ground, CrewSound, Sound}
-use Rattle.model.proofs.Workers.{movedState, work-met, split-met, unite-met, close-met}
+use Rattle.model.proofs.Workers.{work-met, split-met, unite-met, close-met}
 use Rattle.model.proofs.Cost.{cost}
 use Rattle.model.proofs.Plays.{step-over, step-on}
 use Rattle.model.proofs.Moving.{move-after}
@@ -91,7 +91,7 @@ module _ {g : Graph} {source P : ℕ} where
 
 -- a close of an empty united bag: the search is finished, and all else stays
 closed-empty : (s : State) (bag : Bag) → isEmpty bag ≡ true
-    → closed s bag ≡ record { labels = s .labels; workers = s .workers; layer = s .layer; finished = true }
+    → closed s bag ≡ endedState s
 unfolding closed
 closed-empty s bag e = rw e
 
@@ -107,7 +107,7 @@ module _ {g : Graph} {source P : ℕ} where
       → (b : Bool) → isEmpty (unitedOutputs (s .workers)) ≡ b → EventLeaves g source P s (closed s (unitedOutputs (s .workers)))
   closed-after s p h idle less true e =
       let bag = unitedOutputs (s .workers) in
-      let over : State = record { labels = s .labels; workers = s .workers; layer = s .layer; finished = true } in
+      let over : State = endedState s in
       let same : closed s bag ≡ over = closed-empty s bag e in
       let sound : Sound g source P over = record { labels-sound = h .labels-sound; crew-sound = h .crew-sound } in
       record {

@@ -10,7 +10,7 @@ use Rattle.schedule.specs.Check.{anyStray}
 use Rattle.schedule.proofs.Bytes.{stray-none}
 use Rattle.schedule.proofs.Schedules.{stray-take, stray-at}
 use Rattle.model.specs.State.{State, openingState}
-use Rattle.model.specs.Play.{Run, step, playFrom, play, stateAt, rounds, eventBound}
+use Rattle.model.specs.Play.{Run, step, playFrom, openingRun, play, stateAt, rounds, eventBound}
 use Rattle.model.specs.Demand.{Accepted, LayerOpen, Demand}
 use Rattle.model.proofs.Sound.{Ground}
 use Rattle.model.proofs.Cost.{finishCost, cost}
@@ -32,7 +32,7 @@ module _ {g : Graph} {source : ℕ} (ground : Ground g source) {P : ℕ} (some-w
       play-good (step g r byte) schedule (stray-none P byte schedule h .1) (step-next ground some-worker r byte good (stray-none P byte schedule h .0) _ refl .good)
 
   -- the opening is good
-  opening-good : Good g source P (record { state = openingState (length g) source P; used = 0; effective = 0 })
+  opening-good : Good g source P (openingRun g source P)
   unfolding openingState
   opening-good = record { sound = opening-sound ground P some-worker; paid = omega (arith, opening-cost ground P some-worker); ended = λ f. absurd (true≢false (sym f)) }
 
@@ -82,9 +82,8 @@ module _ {g : Graph} {source P : ℕ} {schedule : List ℕ} (a : Accepted g sour
   rounds-run : play g source P schedule .state .finished ≡ false → rounds P schedule ≤ play g source P schedule .effective
   unfolding play
   rounds-run live =
-      let opening : Run = record { state = openingState (length g) source P; used = 0; effective = 0 } in
       let crew = opening-sound (accepted-ground a) P (a .some-worker) .crew-sound .crew in
-      omega (arith, rounds-count g (a .some-worker) (a .few-workers) opening schedule crew live)
+      omega (arith, rounds-count g (a .some-worker) (a .few-workers) (openingRun g source P) schedule crew live)
 
   -- that many rounds finish
   finishes : (f : Bool) → play g source P schedule .state .finished ≡ f → eventBound g P ≤ rounds P schedule → f ≡ true

@@ -7,7 +7,7 @@ use mathlib.Core.Option.{Option, none, some, Option·none-ne-some, Option·some-
 use Prim.Native.Nat.{ℕ, zero, suc, _+_, _≤_, _<_}
 use native.Mathlib.Omega.{arith}
 use lib.Dec.{ltb}
-use lib.ListN.{length, getD, set}
+use lib.ListN.{length, getD}
 use borrow.Author.Tests.{ltb-true, ltb-false, not-true}
 use Rattle.lists.specs.Lists.{sumOf}
 use Rattle.graph.specs.Graph.{Graph, edges}
@@ -17,7 +17,7 @@ use Rattle.pennant.proofs.Laws.{weigh-union, empty-bag, shaped-union}
 use Rattle.schedule.specs.declared.Event.the-variants.{Work, Split, Unite, Close}
 use Rattle.model.specs.Paths.{Labels}
 use Rattle.model.specs.State.{Phase, free, holding, inHand, marked, named, Worker, idleWorker, State, workerAt}
-use Rattle.model.specs.Table.{holdAt, moveOf, afterMove, replaceWorkers, splitInputs, uniteOutputs, isFree, allIdle, unitedOutputs, closed, act}
+use Rattle.model.specs.Table.{holdAt, moveOf, movedState, afterMove, replaceWorkers, splitInputs, uniteOutputs, isFree, allIdle, unitedOutputs, closed, act}
 
 -- a worker that goes to edge i of u: it is free where u has no such edge, else it holds u there
 pub hold-cases : (g : Graph) (Q : Phase → Type 0) (u i : ℕ) → (length (edges g u) ≤ i → Q free) → (i < length (edges g u) → Q (holding u i))
@@ -92,10 +92,6 @@ all-idle (w ∷ workers) h =
 pub effective : {A : Type 0} (b : Bool) (u t : A) → cond b (some u) none ≡ some t → (b ≡ true) × (u ≡ t)
 effective true u t e = (refl, Option·some-injective u t e)
 effective false u t e = absurd (Option·none-ne-some t e)
-
--- the state after a move of worker w
-abbrev pub movedState : State → ℕ → Worker × Labels → State
-movedState s w m = record { labels = m .1; workers = set (s .workers) w (m .0); layer = s .layer; finished = s .finished }
 
 module _ (g : Graph) (s : State) where
   -- the move that worker w has, if any

@@ -1,10 +1,11 @@
 -- Document 01's bench cases A to J, "as a table of inputs and outcomes".
 use mathlib.Core.List.{List, [], _∷_, _++_}
-use Prim.Native.Nat.{ℕ, zero, suc}
+use Prim.Native.Nat.{ℕ}
 use lib.ListN.{replicate}
+use Rattle.graph.specs.BenchFiles.{wordsA, wordsC, wordsE, wordsF, wordsG}
 use Rattle.graph.specs.Encode.{bytesOf}
-use Rattle.pennant.specs.Bag.{Bag, emptyBag, bagInsert, splitFirst, splitSecond}
-use Rattle.pennant.specs.Held.{size}
+use Rattle.pennant.specs.Bag.{splitFirst, splitSecond}
+use Rattle.pennant.specs.Held.{size, upTo}
 use Rattle.model.specs.Call.{Lent, Outcome, outcomeOfSearch}
 
 -- a search of a file given by its words, with distances and parents of so many places; or a split of a bag of so many numbers
@@ -27,27 +28,14 @@ lentFor places =
 unfoldable pub answersOf : Outcome → Expected
 answersOf o = answers (o .answer .number) (o .answer .used) (o .answer .effective) (o .answer .layer) (o .lent .distances) (o .lent .parents)
 
--- the bag after 1, 2, .., n are inserted
-unfoldable pub bagOf : ℕ → Bag
-bagOf zero = emptyBag
-bagOf (suc n) = bagInsert (suc n) (bagOf n)
-
 -- the outcome of a case
 unfoldable pub outcomeOfCase : Case → Expected
 outcomeOfCase (searching words source P schedule places) = answersOf (outcomeOfSearch (bytesOf words) source P schedule (lentFor places))
-outcomeOfCase (splitting elements) = sizes (size (splitFirst (bagOf elements))) (size (splitSecond (bagOf elements)))
+outcomeOfCase (splitting elements) = sizes (size (splitFirst (upTo elements))) (size (splitSecond (upTo elements)))
 
--- A: "n 4, m 4; heads 1 3 4 0; records (1,2) (2,0) (3,0) (3,0)"
-abbrev pub wordsA : List ℕ
-wordsA = 4 ∷ 4 ∷ 1 ∷ 3 ∷ 4 ∷ 0 ∷ 1 ∷ 2 ∷ 2 ∷ 0 ∷ 3 ∷ 0 ∷ 3 ∷ 0 ∷ []
-
--- "Sheet: 0 nine times, 192, 72, 0, 8, 0, 8, 0, 8," and then events 18 and 19, "0, 8, 192, 0, 0, 192"
+-- A: "Sheet: 0 nine times, 192, 72, 0, 8, 0, 8, 0, 8," and then events 18 and 19, "0, 8, 192, 0, 0, 192"
 abbrev pub scheduleA : ℕ → ℕ → List ℕ
 scheduleA event18 event19 = replicate 9 0 ++ 192 ∷ 72 ∷ 0 ∷ 8 ∷ 0 ∷ 8 ∷ 0 ∷ 8 ∷ event18 ∷ event19 ∷ 0 ∷ 8 ∷ 192 ∷ 0 ∷ 0 ∷ 192 ∷ []
-
--- C: "n 1, m 0"
-abbrev pub wordsC : List ℕ
-wordsC = 1 ∷ 0 ∷ 0 ∷ []
 
 -- C: "sheet 0, 192". "What E to I leave unsaid is as in C."
 abbrev pub scheduleC : List ℕ
@@ -64,9 +52,9 @@ benchTable =
     ∷ (searching wordsA 0 2 (scheduleA 0 8) 4, answers 0 25 25 2 (0 ∷ 1 ∷ 1 ∷ 2 ∷ []) (0 ∷ 0 ∷ 0 ∷ 2 ∷ []))
     ∷ (searching wordsC 0 1 scheduleC 1, answers 0 2 2 0 (0 ∷ []) (0 ∷ []))
     ∷ (searching wordsC 0 1 [] 1, answers 21 0 0 0 (0 ∷ []) (0 ∷ []))
-    ∷ (searching (1 ∷ 1 ∷ 0 ∷ 0 ∷ 0 ∷ []) 0 1 scheduleC 1, refused 6)
-    ∷ (searching (1 ∷ 1 ∷ 1 ∷ 0 ∷ 1 ∷ []) 0 1 scheduleC 1, refused 5)
-    ∷ (searching (0 ∷ 0 ∷ []) 0 1 scheduleC 1, refused 2)
+    ∷ (searching wordsE 0 1 scheduleC 1, refused 6)
+    ∷ (searching wordsF 0 1 scheduleC 1, refused 5)
+    ∷ (searching wordsG 0 1 scheduleC 1, refused 2)
     ∷ (searching wordsC 0 9 scheduleC 1, refused 8)
     ∷ (searching wordsC 0 1 (72 ∷ []) 1, refused 9)
     ∷ (splitting 23, sizes 12 11)

@@ -5,7 +5,7 @@ use mathlib.Core.Option.{Option, none, some}
 use Prim.Native.Nat.{ℕ, suc, _+_, _*_}
 use lib.Dec.{eqb}
 use lib.ListN.{length, getD, take}
-use Rattle.lists.specs.Lists.{numbersFrom}
+use Rattle.lists.specs.Lists.{numbersFrom, someOne}
 use Rattle.graph.specs.Graph.{Graph, targetsOf}
 use Rattle.schedule.specs.Events.{eventOf}
 use Rattle.model.specs.State.{State, openingState}
@@ -30,22 +30,21 @@ step g r byte = cond (r .state .finished) r (tally r (act g (r .state) (eventOf 
 unfoldable pub playFrom : Graph → Run → List ℕ → Run
 playFrom g r schedule = foldl (step g) r schedule
 
+-- before the first byte
+abbrev pub openingRun : Graph → ℕ → ℕ → Run
+openingRun g source P = record { state = openingState (length g) source P; used = 0; effective = 0 }
+
 -- "The list is played from the opening state"
 unfoldable pub play : Graph → ℕ → ℕ → List ℕ → Run
-play g source P schedule = playFrom g (record { state = openingState (length g) source P; used = 0; effective = 0 }) schedule
+play g source P schedule = playFrom g (openingRun g source P) schedule
 
 -- the state after the first k bytes
 unfoldable pub stateAt : Graph → ℕ → ℕ → List ℕ → ℕ → State
 stateAt g source P schedule k = play g source P (take k schedule) .state
 
--- 1 for a condition that is met
-abbrev pub metOne : Option State → ℕ
-metOne none = 0
-metOne (some s) = 1
-
 -- 1 where the condition of byte k is met at its turn
 unfoldable pub metAt : Graph → ℕ → ℕ → List ℕ → ℕ → ℕ
-metAt g source P schedule k = metOne (act g (stateAt g source P schedule k) (eventOf (getD schedule k 0)))
+metAt g source P schedule k = someOne (act g (stateAt g source P schedule k) (eventOf (getD schedule k 0)))
 
 -- "A full round is work by 0 to P - 1, then close, in adjacent bytes."
 unfoldable pub roundBytes : ℕ → List ℕ

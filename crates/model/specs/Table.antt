@@ -41,10 +41,14 @@ move g d x input output (named u i t) = some (workerWith input (bagInsert t outp
 abbrev pub moveOf : Graph → ℕ → Labels → Worker → Option (Worker × Labels)
 moveOf g d x w = move g d x (w .input) (w .output) (w .phase)
 
--- a move put into the state
+-- the state with a move of worker w made in it
+abbrev pub movedState : State → ℕ → Worker × Labels → State
+movedState s w m = record { labels = m .1; workers = set (s .workers) w (m .0); layer = s .layer; finished = s .finished }
+
+-- a move put into the state, if there is one
 unfoldable pub afterMove : State → ℕ → Option (Worker × Labels) → Option State
 afterMove s w none = none
-afterMove s w (some m) = some (record { labels = m .1; workers = set (s .workers) w (m .0); layer = s .layer; finished = s .finished })
+afterMove s w (some m) = some (movedState s w m)
 
 -- the state with other workers
 abbrev pub replaceWorkers : State → List Worker → State
@@ -85,11 +89,22 @@ unitedOutputs workers = foldl bagUnion (workerAt workers 0 .input) (map (λ (w :
 abbrev pub handedIn : Worker → Worker
 handedIn w = workerWith (w .input) emptyBag (w .phase)
 
--- ".. and d grows by 1. If the united bag is empty, the search is finished instead and d stays."
+-- ".. and d grows by 1"
+abbrev pub raisedState : State → Bag → State
+raisedState s bag = record {
+  labels = s .labels;
+  workers = set (map handedIn (s .workers)) 0 (workerWith bag emptyBag free);
+  layer = suc (s .layer);
+  finished = false;
+}
+
+-- "the search is finished instead and d stays"
+abbrev pub endedState : State → State
+endedState s = record { labels = s .labels; workers = s .workers; layer = s .layer; finished = true }
+
+-- ".. If the united bag is empty, the search is finished instead"
 unfoldable pub closed : State → Bag → State
-closed s bag = cond (isEmpty bag)
-    (record { labels = s .labels; workers = s .workers; layer = s .layer; finished = true })
-    (record { labels = s .labels; workers = set (map handedIn (s .workers)) 0 (workerWith bag emptyBag free); layer = suc (s .layer); finished = false })
+closed s bag = cond (isEmpty bag) (endedState s) (raisedState s bag)
 
 -- the table: "An event whose condition isn't met changes nothing. The others are effective."
 unfoldable pub act : Graph → State → Event → Option State

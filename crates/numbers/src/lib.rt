@@ -10,6 +10,9 @@ pub const MAX_WORKERS: usize = 8;
 
 pub const MAX_EVENTS: usize = 5000000;
 
+// An unset distance or parent, in 16-bit lists.
+pub const UNSET: u16 = 65535;
+
 // "Turned down by the input"; 0 is success.
 pub const SUCCESS: usize = 0;
 
@@ -25,6 +28,8 @@ pub const REPEATED: usize = 5;
 
 pub const UNREACHED: usize = 6;
 
+pub const BAD_SOURCE: usize = 7;
+
 pub const BAD_WORKERS: usize = 8;
 
 pub const BAD_SCHEDULE: usize = 9;
@@ -33,3 +38,5 @@ pub const BAD_ROWS: usize = 11;
 
 // "Turned down by the state".
 pub const SHORT_LIST: usize = 20;
+
+pub const UNFINISHED: usize = 21;

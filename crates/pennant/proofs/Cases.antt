@@ -9,7 +9,7 @@ use Rattle.lists.specs.Lists.{sumOf}
 use Rattle.pennant.specs.Pennant.{null, node, Slot, gap, tip, pennantUnion, pennantFirst, pennantSecond}
 use Rattle.pennant.specs.Bag.{Bag, emptyBag, insertPennant, bagInsert, insertFilled, adderSum, adderCarry, addFrom, bagUnion, splitFirst}
 use Rattle.pennant.specs.Bag.{splitSecond, spread, takeFrom, takeRest, takenNumber, isGap}
-use Rattle.pennant.specs.Held.{treeItems, slotItems, items, weighTree, weighSlot, weigh, size, Shaped, mapTree, mapSlot, mapBag}
+use Rattle.pennant.specs.Held.{upTo, treeItems, slotItems, items, weighTree, weighSlot, weigh, size, Shaped, mapTree, mapSlot, mapBag}
 
 -- a pennant of size 1
 abbrev pub lone : ℕ → Slot
@@ -55,11 +55,6 @@ pub case-adder : adderBoth gap gap gap
     ≡ (gap, gap) ∷ (lone 1, gap) ∷ (lone 2, gap) ∷ (lone 3, gap) ∷ (gap, pair 1 2) ∷ (gap, pair 1 3) ∷ (gap, pair 2 3) ∷ (lone 1, pair 2 3) ∷ []
 unfolding adderBoth adderSum adderCarry pennantUnion
 case-adder = refl
-
--- the bag after 1, 2, .., n are inserted
-unfoldable pub upTo : ℕ → Bag
-upTo zero = emptyBag
-upTo (suc n) = bagInsert (suc n) (upTo n)
 
 -- 4 numbers fill slot 2
 pub case-four : upTo 4 ≡ gap ∷ gap ∷ four ∷ replicate 13 gap

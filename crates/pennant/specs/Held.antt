@@ -1,11 +1,11 @@
--- What a bag holds: the list of its numbers, weights summed over them, its shape, and the bag with each number replaced.
+-- What a bag holds: the list of its numbers, weights summed over them, its shape, the bag with each number replaced, and a bag of 1, 2, .., n.
 use Prim.Native.Nat.{ℕ, zero, suc, _+_}
 use mathlib.Core.Bool.{cond}
 use mathlib.Core.List.{List, [], _∷_, _++_, map}
 use lib.Dec.{eqb}
 use Rattle.lists.specs.Lists.{sumOf}
 use Rattle.pennant.specs.Pennant.{Tree, null, node, Slot, gap, tip}
-use Rattle.pennant.specs.Bag.{Bag}
+use Rattle.pennant.specs.Bag.{Bag, emptyBag, bagInsert}
 
 -- the numbers of a tree
 unfoldable pub treeItems : Tree → List ℕ
@@ -86,3 +86,8 @@ mapSlot f (tip a t) = tip (f a) (mapTree f t)
 -- a bag with the same: the trees keep their shape
 unfoldable pub mapBag : (ℕ → ℕ) → Bag → Bag
 mapBag f s = map (mapSlot f) s
+
+-- the bag after 1, 2, .., n are inserted
+unfoldable pub upTo : ℕ → Bag
+upTo zero = emptyBag
+upTo (suc n) = bagInsert (suc n) (upTo n)
