@@ -23,7 +23,7 @@ enum-told-2 c = search needs
 
 returns : tie.Need-returns
 unfolding within
-returns c = rw (c .before .event .given .1)
+returns c = rw (c .before .event .given .1) refl
 
 returns-2 : tie.Need-returns-2
 unfolding within
@@ -31,7 +31,7 @@ returns-2 c = rw (c .before .before .event2 .given .1, lt-ltb _ _ (c .if1 .taken
 
 returns-3 : tie.Need-returns-3
 unfolding within
-returns-3 c = rw (c .before .before .event2 .given .1, le-ltb _ _ (c .if1 .left))
+returns-3 c = rw (c .before .before .event2 .given .1, le-ltb _ _ (c .if1 .left)) refl
 
 returns-4 : tie.Need-returns-4
 unfolding within
@@ -39,15 +39,15 @@ returns-4 c = rw (c .before .before .event3 .given .1, lt-ltb _ _ (c .if2 .taken
 
 returns-5 : tie.Need-returns-5
 unfolding within
-returns-5 c = rw (c .before .before .event3 .given .1, le-ltb _ _ (c .if2 .left))
+returns-5 c = rw (c .before .before .event3 .given .1, le-ltb _ _ (c .if2 .left)) refl
 
 returns-6 : tie.Need-returns-6
 unfolding within
-returns-6 c = rw (c .enum-told .given .1)
+returns-6 c = rw (c .enum-told .given .1) refl
 
 returns-7 : tie.Need-returns-7
 unfolding within
-returns-7 c = rw (c .enum-told2 .given .1)
+returns-7 c = rw (c .enum-told2 .given .1) refl
 
 pub fits-spec : {M : Type 1} → statement M
 fits-spec =
