@@ -67,11 +67,11 @@ held-kept left right left′ right′ number number′ slots same agree =
 -- A family in two parts: the bags that an operation moves, and the rest, which has empty bags in their places.
 
 -- in any lists a family weighs what its two parts weigh
-abbrev Parts : List (List ℕ) → List (List ℕ) → List (List ℕ) → Type 0
+abbrev pub Parts : List (List ℕ) → List (List ℕ) → List (List ℕ) → Type 0
 Parts bags part rest = (f : ℕ → ℕ) (left right : List ℕ) → weighNodes f left right bags ≡ weighNodes f left right part + weighNodes f left right rest
 
 -- what is well-formed with the family is so with the part
-pool-part : {left right : List ℕ} {bags : List (List ℕ)} (part rest : List (List ℕ)) → Pooled left right bags → Parts bags part rest → Pooled left right part
+pub pool-part : {left right : List ℕ} {bags : List (List ℕ)} (part rest : List (List ℕ)) → Pooled left right bags → Parts bags part rest → Pooled left right part
 pool-part {left} {right} part rest pool parts = record {
   some = pool .some;
   few = pool .few;
@@ -107,14 +107,14 @@ module _ {left right left′ right′ : List ℕ} {bags part part′ : List (Lis
       sum-same (λ slots. weigh f (nodesOf left′ right′ slots)) (λ slots. weigh f (nodesOf left right slots)) [] rest (λ i h. ap (weigh f) (rest-kept i))
 
   -- and holds the numbers it held, if numbers change only at nodes that move
-  rest-held : (number number′ : List ℕ) → ((x : ℕ) → 0 < x → uses x left right part ≡ 0 → getD number′ x 0 ≡ getD number x 0)
+  pub rest-held : (number number′ : List ℕ) → ((x : ℕ) → 0 < x → uses x left right part ≡ 0 → getD number′ x 0 ≡ getD number x 0)
       → map (heldBy left′ right′ number′) rest ≡ map (heldBy left right number) rest
   rest-held number number′ agree =
       map-agree (heldBy left′ right′ number′) (heldBy left right number) [] rest
       (λ m h. held-kept left right left′ right′ number number′ (getD rest m []) (rest-kept m) (λ x c. let off = rest-off m x c in agree x (off .0) (off .1)))
 
   -- the family moves where the part does
-  family-moved : (bags′ : List (List ℕ)) → Parts bags′ part′ rest → Moved left right bags left′ right′ bags′
+  pub family-moved : (bags′ : List (List ℕ)) → Parts bags′ part′ rest → Moved left right bags left′ right′ bags′
   family-moved bags′ parts′ = record {
     nodes = λ f. omega (arith, parts f left right, parts′ f left′ right′, rest-weighs f, moved .nodes f);
     kept-left = λ x h c. moved .kept-left x h (omega (arith, parts (only x) left right));

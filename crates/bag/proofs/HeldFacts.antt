@@ -1,15 +1,16 @@
 -- The numbers held by a bag of nodes, for crates that speak of numbers and not of nodes: emptiness, size, shape, the empty bag, and room for
 -- one more.
-use Prim.Native.Nat.{ℕ, _+_, _<_}
+use Prim.Native.Nat.{ℕ, zero, suc, _+_, _<_}
 use native.Mathlib.Omega.{arith}
-use mathlib.Core.Path.{_≡_, refl, ap, _∙_}
+use mathlib.Core.Path.{_≡_, refl, sym, ap, _∙_}
+use mathlib.Core.Bool.{true, true≢false}
 use mathlib.Core.List.{List, [], _∷_, map}
-use lib.ListN.{length, getD}
+use lib.ListN.{length, getD, replicate}
 use Rattle.lists.specs.Lists.{sumOf}
-use Rattle.pennant.specs.Bag.{isEmpty, atLeastTwo, emptyBag}
+use Rattle.pennant.specs.Bag.{slotCount, isEmpty, atLeastTwo, emptyBag}
 use Rattle.pennant.specs.Held.{weigh, size, one, Shaped, mapBag}
 use Rattle.pennant.proofs.Laws.{map-is-empty, map-at-least-two, map-empty, map-length, weigh-map, shaped-map}
-use Rattle.bag.specs.Nodes.{nodesOf, heldBy, emptySlots}
+use Rattle.bag.specs.Nodes.{pennantAt, slotsFrom, nodesOf, heldBy, emptySlots}
 use Rattle.bag.specs.Promises.{weighNodes, weighFree}
 use Rattle.bag.proofs.Kept.{nodes-shaped, length-nodes}
 use Rattle.bag.proofs.Free.{nodes-empty, free-some}
@@ -61,3 +62,14 @@ family-room left right number bags total whole few = free-some left (omega (arit
 pub held-none : (left right number : List ℕ) → heldBy left right number emptySlots ≡ emptyBag
 unfolding heldBy
 held-none left right number = ap (mapBag (λ x. getD number x 0)) (nodes-empty left right) ∙ map-empty (λ x. getD number x 0)
+
+-- an empty bag has nothing in its slots
+bare-from : (left right : List ℕ) (k : ℕ) (slots : List ℕ) → isEmpty (slotsFrom left right k slots) ≡ true → slots ≡ replicate (length slots) 0
+unfolding slotsFrom pennantAt isEmpty
+bare-from left right k [] e = refl
+bare-from left right k (zero ∷ slots) e = ap (λ (l : List ℕ). 0 ∷ l) (bare-from left right (suc k) slots e)
+bare-from left right k (suc x ∷ slots) e = absurd (true≢false (sym e))
+
+pub bare-slots : (left right slots : List ℕ) → length slots ≡ slotCount → isEmpty (nodesOf left right slots) ≡ true → slots ≡ emptySlots
+unfolding nodesOf
+bare-slots left right slots long e = bare-from left right 0 slots e ∙ ap (λ (n : ℕ). replicate n 0) long

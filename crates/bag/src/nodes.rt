@@ -1,26 +1,12 @@
-// Single nodes: read and stored, linked to a pennant of twice the size, split off again, taken from
+// Single nodes: linked to a pennant of twice the size, split off again, taken from
 // the free chain and given back.
 ghost use mathlib.Core.Path.{_≡_};
 ghost use mathlib.Core.List.{[], _∷_};
 ghost use Prim.Native.Nat.{ℕ, suc, _<_};
 ghost use lib.ListN.{length, getD, set};
 ghost use Rattle.bag.specs.Steps.{Pennants, Halved};
-
-// What the list has at node x.
-pub fn at(list: &[u16], x: u16) -> u16
-    requires { ⌜ x < length (now list) ⌝ }
-    ensures { λ r. ⌜ r ≡ getD (now (list .entry)) x 0 ⌝ }
-{
-    list[x as usize]
-}
-
-// Stores y at node x.
-fn put(list: &mut [u16], x: u16, y: u16)
-    requires { ⌜ x < length (now list) ⌝ }
-    ensures { λ _. ⌜ now (list .exit) ≡ set (now (list .entry)) x y ⌝ }
-{
-    list[x as usize] = y;
-}
+use lists::at;
+use lists::put;
 
 // PENNANT-UNION of the pennants with the roots x and y; the root is x.
 pub fn link(x: u16, y: u16, left: &mut [u16], right: &mut [u16])

@@ -15,10 +15,10 @@ use crate::Taken;
 use crate::adder::add;
 use crate::first_filled;
 use crate::nodes::allocate;
-use crate::nodes::at;
 use crate::nodes::halve;
 use crate::nodes::link;
 use crate::nodes::release;
+use lists::at;
 
 // BAG-INSERT of the node x.
 fn place(bag: Bag, x: u16, left: &mut [u16], right: &mut [u16]) -> Bag

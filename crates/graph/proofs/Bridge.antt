@@ -157,11 +157,11 @@ pub rows-rising : (a : ℕ) (offsets targets : List ℕ) → Rows (a ∷ offsets
 rows-rising a offsets targets r = rise-of (length targets) a offsets (falls-none 0 a offsets (r .rise) .1) (r .stop)
 
 -- so each row's two offsets do not fall or pass the end of the targets
-offsets-rise : (offsets targets : List ℕ) → Rows offsets targets → (u : ℕ) → u < rowCount offsets → getD offsets u 0 ≤ getD offsets (suc u) 0
+pub offsets-rise : (offsets targets : List ℕ) → Rows offsets targets → (u : ℕ) → u < rowCount offsets → getD offsets u 0 ≤ getD offsets (suc u) 0
 offsets-rise [] targets r u h = absurd (not-suc-le-zero (r .some))
 offsets-rise (a ∷ offsets) targets r u h = rising-step (rows-rising a offsets targets r) u h
 
-offsets-end : (offsets targets : List ℕ) → Rows offsets targets → (u : ℕ) → u < rowCount offsets → getD offsets (suc u) 0 ≤ length targets
+pub offsets-end : (offsets targets : List ℕ) → Rows offsets targets → (u : ℕ) → u < rowCount offsets → getD offsets (suc u) 0 ≤ length targets
 offsets-end [] targets r u h = absurd (not-suc-le-zero (r .some))
 offsets-end (a ∷ offsets) targets r u h = rising-below (rows-rising a offsets targets r) (suc u)
 

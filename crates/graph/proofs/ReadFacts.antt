@@ -51,7 +51,7 @@ chain-clears false true = refl
 chain-clears false false = refl
 
 -- an answer has the number that it is made for
-answer-number : (k n m : ℕ) → answerWith k n m .number ≡ k
+pub answer-number : (k n m : ℕ) → answerWith k n m .number ≡ k
 unfolding answerWith
 answer-number k n m = go (eqb k success)
   where
@@ -60,12 +60,12 @@ answer-number k n m = go (eqb k success)
     go false = refl
 
 -- zeros beside a refusal
-answer-refused : (k n m : ℕ) → (k ≡ 0 → ⊥) → answerWith k n m ≡ refusalAnswer k
+pub answer-refused : (k n m : ℕ) → (k ≡ 0 → ⊥) → answerWith k n m ≡ refusalAnswer k
 unfolding answerWith
 answer-refused k n m h = rw (ne-eqb k 0 h)
 
 -- n and m beside 0
-answer-whole : (k n m : ℕ) → k ≡ 0 → answerWith k n m ≡ record { number = 0; vertices = n; edges = m }
+pub answer-whole : (k n m : ℕ) → k ≡ 0 → answerWith k n m ≡ record { number = 0; vertices = n; edges = m }
 unfolding answerWith
 answer-whole k n m h = rw h
 

@@ -1,5 +1,5 @@
 -- What a sound state needs of the engine's lists: all bags together hold at most P copies of each vertex, no slot above the sixteenth is filled,
--- and distances, parents and the layer are below n.
+-- input bags hold vertices, and distances, parents and the layer are below n.
 use mathlib.Core.Path.{_≡_, refl}
 use mathlib.Core.List.{List, [], _∷_, _++_}
 use mathlib.Core.Option.{some, mem-unique}
@@ -15,7 +15,7 @@ use Rattle.lists.proofs.Sums.{sum-append, sum-at, sum-both, sum-within}
 use Rattle.lists.proofs.Tests.{length-range, getD-range}
 use Rattle.graph.specs.Graph.{Graph}
 use Rattle.pennant.specs.Bag.{slotCount}
-use Rattle.pennant.specs.Held.{items, weigh, one, only, size}
+use Rattle.pennant.specs.Held.{items, weigh, one, only, size, copies}
 use Rattle.pennant.proofs.Laws.{weigh-empty, weigh-items, only-self, no-slot-above}
 use Rattle.model.specs.Paths.{Distance, distanceOf, parentOf}
 use Rattle.model.specs.State.{Worker, State, workerAt, idleWorker}
@@ -104,6 +104,12 @@ module _ {g : Graph} {source : ℕ} (ground : Ground g source) where
         let idle : size (idleWorker .input) + size (idleWorker .output) ≡ 0 = omega (arith, weigh-empty one) in
         omega (arith, held-most, mul-le-mul p q, sum-at (λ (x : Worker). size (x .input) + size (x .output)) (s .workers) w idleWorker idle)
 
+    -- a number in a worker's input bag is a vertex
+    input-below : (w v : ℕ) → 1 ≤ copies v (workerAt (s .workers) w .input) → v < length g
+    input-below w v k =
+        let idle : copies v (idleWorker .input) ≡ 0 = weigh-empty (only v) in
+        held-below v (omega (arith, sum-at (λ (x : Worker). copies v (x .input)) (s .workers) w idleWorker idle))
+
     -- a distance that is set is below n: each layer up to it has a vertex
     distance-below : (v d : ℕ) → distanceOf (s .labels) v ≡ some d → d < length g
     distance-below v d e = go (decLe d (s .layer))
@@ -131,6 +137,9 @@ module _ {g : Graph} {source : ℕ} (ground : Ground g source) where
     all-held = held-most h;
     inputs-low = λ q w. no-slot-above (workerAt (s .workers) w .input) (h .crew-sound .each w .input-shaped) (omega (arith, held-small h p q w));
     outputs-low = λ q w. no-slot-above (workerAt (s .workers) w .output) (h .crew-sound .each w .output-shaped) (omega (arith, held-small h p q w));
+    inputs-below = input-below h;
+    distances-all = h .labels-sound .distances-all;
+    parents-all = h .labels-sound .parents-all;
     distances-below = distance-below h;
     parents-below = parent-below h;
     layer-below = omega (arith, h .labels-sound .room);

@@ -82,7 +82,7 @@ play-crew g r [] = refl
 play-crew g r (byte ∷ schedule) = play-crew g (step g r byte) schedule ∙ step-crew g r byte _ refl
 
 -- once finished, nothing is used
-play-finished : (g : Graph) (r : Run) (schedule : List ℕ) → r .state .finished ≡ true → playFrom g r schedule ≡ r
+pub play-finished : (g : Graph) (r : Run) (schedule : List ℕ) → r .state .finished ≡ true → playFrom g r schedule ≡ r
 unfolding playFrom
 play-finished g r [] e = refl
 play-finished g r (byte ∷ schedule) e = ap (λ (q : Run). foldl (step g) q schedule) (step-over g r byte e) ∙ play-finished g r schedule e

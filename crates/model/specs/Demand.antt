@@ -39,12 +39,16 @@ pub record LayerOpen (g : Graph) (source P : ℕ) (s : State) : Type 0 where
 unfoldable pub held : List Worker → ℕ
 held workers = sumOf (λ (w : Worker). size (w .input) + size (w .output)) workers
 
--- what holds at every moment, for the engine's lists: P workers, no more numbers than nodes, 16 slots are enough, distances and parents are below n
+-- what holds at every moment, for the engine's lists: P workers, no more numbers than nodes, 16 slots are enough, input bags hold vertices, each
+-- vertex has a distance and a parent, set or not, and they are below n
 pub record Fitting (g : Graph) (P : ℕ) (s : State) : Type 0 where
   pub all-there : length (s .workers) ≡ P
   pub all-held : held (s .workers) ≤ P * length g
   pub inputs-low : length g ≤ maxVertices → (w k : ℕ) → slotCount ≤ k → isGap (getD (workerAt (s .workers) w .input) k gap) ≡ true
   pub outputs-low : length g ≤ maxVertices → (w k : ℕ) → slotCount ≤ k → isGap (getD (workerAt (s .workers) w .output) k gap) ≡ true
+  pub inputs-below : (w v : ℕ) → 1 ≤ copies v (workerAt (s .workers) w .input) → v < length g
+  pub distances-all : length (s .labels .distances) ≡ length g
+  pub parents-all : length (s .labels .parents) ≡ length g
   pub distances-below : (v d : ℕ) → distanceOf (s .labels) v ≡ some d → d < length g
   pub parents-below : (v p : ℕ) → parentOf (s .labels) v ≡ some p → p < length g
   pub layer-below : s .layer < length g

@@ -1,4 +1,4 @@
--- `lists::clear` meets its contract. The invariant: the first i places are 0, the rest is as it was. The measure is count less i.
+-- `lists::fill` meets its contract. The invariant: the first i places are y, the rest is as it was. The measure is count less i.
 use borrow.Author.Needs.{needs}
 use native.Mathlib.Omega.{arith}
 use mathlib.Core.Path.{_≡_, refl, sym, _∙_}
@@ -7,14 +7,14 @@ use Prim.Native.Nat.{ℕ, _-_, _≤_, _<_}
 use lib.ListN.{length, take, replicate, length-replicate, getD-replicate, length-set}
 use Rattle.lists.specs.Lists.{overlay}
 use Rattle.lists.proofs.Overlay.{overlay-store, overlay-all}
-use Rattle.lists.proofs.clear.Statement.{statement}
-use Rattle.lists.proofs.clear.Tie as tie
+use Rattle.lists.proofs.fill.Statement.{statement}
+use Rattle.lists.proofs.fill.Tie as tie
 
 abbrev Inv-loop : tie.InvT-loop
-Inv-loop list₀ count i₀ list i = (i ≤ count) × (list ≡ overlay (take i (replicate count 0)) list₀) × (length list ≡ length list₀)
+Inv-loop list₀ count y i₀ list i = (i ≤ count) × (list ≡ overlay (take i (replicate count y)) list₀) × (length list ≡ length list₀)
 
 abbrev μ-loop : tie.MeasureT-loop
-μ-loop list₀ count i₀ list i = count - i
+μ-loop list₀ count y i₀ list i = count - i
 
 loop-holds : tie.Need-loop-holds Inv-loop μ-loop
 unfolding overlay
@@ -37,11 +37,12 @@ loop-again c =
     let at-loop = c .before in
     let at-start = at-loop .before in
     let count = at-start .args .count in
+    let y = at-start .args .y in
     let i = at-loop .loop .i in
     let below : i < count = omega arith in (
       search needs,
-      overlay-store (replicate count 0) (at-start .args .list .now) (at-loop .loop .inv .1) (sym (getD-replicate count i 0 0 below)) (rw length-replicate below) (omega arith),
-      length-set (at-loop .loop .list) i 0 ∙ at-loop .loop .inv .2,
+      overlay-store (replicate count y) (at-start .args .list .now) (at-loop .loop .inv .1) (sym (getD-replicate count i y 0 below)) (rw length-replicate below) (omega arith),
+      length-set (at-loop .loop .list) i y ∙ at-loop .loop .inv .2,
     )
 
 same-length : tie.Need-same-length Inv-loop μ-loop
@@ -51,8 +52,9 @@ returns : tie.Need-returns Inv-loop μ-loop
 returns c =
     let at-loop = c .before in
     let count = at-loop .before .args .count in
+    let y = at-loop .before .args .y in
     let list₀ : List ℕ = at-loop .before .args .list .now in
-    at-loop .loop .inv .1 ∙ overlay-all (replicate count 0) list₀ (at-loop .loop .i) (rw length-replicate (omega arith))
+    at-loop .loop .inv .1 ∙ overlay-all (replicate count y) list₀ (at-loop .loop .i) (rw length-replicate (omega arith))
 
-pub clear-spec : {M : Type 1} → statement M
-clear-spec = tie.close (tie.spec Inv-loop μ-loop loop-holds mul-list slice-write-list add-i loop-less loop-again same-length returns)
+pub fill-spec : {M : Type 1} → statement M
+fill-spec = tie.close (tie.spec Inv-loop μ-loop loop-holds mul-list slice-write-list add-i loop-less loop-again same-length returns)

@@ -1,0 +1,248 @@
+-- A whole call's outcome, one fact for each way out.
+use mathlib.Core.Path.{_≡_, refl, sym, ap, _∙_}
+use mathlib.Core.Bool.{Bool, true, false, cond, not, _&&_, and-eq-true-iff}
+use mathlib.Core.List.{List, [], _∷_, _++_, append-assoc}
+use Prim.Native.Nat.{ℕ, _+_, _≤_}
+use native.Mathlib.Omega.{arith}
+use lib.ListN.{length, take, drop, replicate, length-append}
+use lib.Seq.{take-at}
+use borrow.Author.Tests.{not-true, ne-eqb}
+use Rattle.numbers.specs.Numbers.{success, repeated, unreached, unfinished}
+use Rattle.numbers.specs.Refusals.{Refusal, _gives_, first}
+use Rattle.numbers.proofs.First.{Positive, first-append, first-append-stop}
+use Rattle.lists.specs.Lists.{overlay, elem}
+use Rattle.graph.specs.Graph.{offsetsOf, targetsOf, rowsOf}
+use Rattle.graph.specs.File.{edgeCount, graphOf}
+use Rattle.graph.specs.Read.{headerRefusals, scanRefusals, chainRefusals, writesRows}
+use Rattle.graph.specs.Steps.{Unchained}
+use Rattle.graph.specs.declared.ReadAnswer.{ReadAnswer}
+use Rattle.graph.proofs.Bridge.{graph-again, length-offsets}
+use Rattle.schedule.specs.Check.{scheduleRefusals}
+use Rattle.schedule.proofs.Schedules.{schedule-passed}
+use Rattle.model.specs.Play.{play}
+use Rattle.model.specs.Call.{Lent, Outcome, nodePlaces, lentShort, runOf, inputRefusals, searchRefusals, searchNumber, plays, outcomeOfSearch}
+use Rattle.model.proofs.Calls.{call-parts, call-sizes, call-accepted, call-number, call-played, call-refused}
+use Rattle.search.specs.declared.Answer.{Answer}
+use Rattle.search.specs.declared.Lengths.{Lengths}
+use Rattle.search.specs.Runs.{Playable, PlayedOut}
+use Rattle.search.specs.Input.{lengthsOf, lengthsShort, refusal, earlyRefusals, earlyAnswer}
+use Rattle.search.specs.Promise.{lentLists, searchExit}
+use Rattle.search.proofs.JudgeFacts.{Passed, early-number, early-passed}
+
+-- Numbers.
+
+-- whether a test holds of each number of a list of refusals
+abbrev eachNumber : (ℕ → Bool) → List Refusal → Bool
+eachNumber f [] = true
+eachNumber f (test gives number ∷ rest) = f number && eachNumber f rest
+
+-- then it holds of the list's number, if that is not 0
+first-each : (f : ℕ → Bool) (l : List Refusal) → eachNumber f l ≡ true → (first l ≡ 0 → ⊥) → f (first l) ≡ true
+unfolding first
+first-each f [] e h = absurd (h refl)
+first-each f (true gives number ∷ rest) e h = and-eq-true-iff (f number) (eachNumber f rest) .0 e .0
+first-each f (false gives number ∷ rest) e h = first-each f rest (and-eq-true-iff (f number) (eachNumber f rest) .0 e .1) h
+
+-- a refusal before the chains' plays nothing and leaves the marks as they were
+early-plays : (file : List ℕ) (source P : ℕ) (schedule : List ℕ) (lengths : Lengths) → let k = first (earlyRefusals file source P schedule lengths) in
+    (k ≡ 0 → ⊥) → (plays k ≡ false) × (elem k (repeated ∷ unreached ∷ []) ≡ false)
+unfolding earlyRefusals headerRefusals scanRefusals scheduleRefusals plays elem
+early-plays file source P schedule lengths h =
+    let l = earlyRefusals file source P schedule lengths in (
+      not-true (plays (first l)) (first-each (λ (k : ℕ). not (plays k)) l refl h),
+      not-true (elem (first l) (repeated ∷ unreached ∷ [])) (first-each (λ (k : ℕ). not (elem k (repeated ∷ unreached ∷ []))) l refl h),
+    )
+
+-- a refusal of the chains' plays nothing and clears the marks
+chain-plays : (file : List ℕ) → let k = first (chainRefusals file) in (k ≡ 0 → ⊥) → (plays k ≡ false) × (elem k (repeated ∷ unreached ∷ []) ≡ true)
+unfolding chainRefusals plays elem
+chain-plays file h =
+    let l = chainRefusals file in
+    (not-true (plays (first l)) (first-each (λ (k : ℕ). not (plays k)) l refl h), first-each (λ (k : ℕ). elem k (repeated ∷ unreached ∷ [])) l refl h)
+
+-- a run's number is that of a call that plays
+run-plays : (b : Bool) → plays (cond b success unfinished) ≡ true
+unfolding plays elem
+run-plays true = refl
+run-plays false = refl
+
+-- a list has the places that were written over it
+overlay-long : (new old : List ℕ) → length new ≤ length (overlay new old)
+unfolding overlay
+overlay-long new old = omega (arith, length-append new (drop (length new) old))
+
+-- The ways out.
+module _ (file : List ℕ) (source P : ℕ) (schedule : List ℕ) (lent : Lent) where
+  -- the tests before the chains are walked
+  abbrev early : List Refusal
+  early = earlyRefusals file source P schedule (lengthsOf lent)
+
+  -- the test on the run
+  abbrev last : List Refusal
+  last = not (runOf file source P schedule .state .finished) gives unfinished ∷ []
+
+  -- the call's number
+  abbrev number : ℕ
+  number = searchNumber file source P schedule lent
+
+  -- the tests before the chains are walked come first, then those of the chains
+  input-parts : inputRefusals file source P schedule lent ≡ early ++ chainRefusals file
+  unfolding inputRefusals earlyRefusals lentShort lengthsShort
+  input-parts = refl
+
+  -- then that of the run
+  number-parts : number ≡ first ((early ++ chainRefusals file) ++ last)
+  unfolding searchNumber searchRefusals
+  number-parts = ap (λ (l : List Refusal). first (l ++ last)) input-parts
+
+  -- the numbers before the chains' are positive
+  early-positive : Positive early
+  unfolding earlyRefusals headerRefusals scanRefusals scheduleRefusals
+  early-positive = omega arith
+
+  -- the outcome of a refusal, with these marks
+  abbrev refusedExit : ℕ → List ℕ → Outcome
+  refusedExit k marks = searchExit (refusal k)
+      (lentLists (lent .offsets) (lent .targets) marks (lent .distances) (lent .parents) (lent .left) (lent .right) (lent .number))
+
+  -- a number that plays nothing has that outcome
+  refused-outcome : {k : ℕ} (b : Bool) {marks : List ℕ} → number ≡ k → plays k ≡ false → elem k (repeated ∷ unreached ∷ []) ≡ b
+      → marks ≡ cond b (overlay (replicate (edgeCount file) 0) (lent .marks)) (lent .marks) → refusedExit k marks ≡ outcomeOfSearch file source P schedule lent
+  refused-outcome {k} b e p q m =
+      let over : List ℕ = overlay (replicate (edgeCount file) 0) (lent .marks) in
+      ap (λ (l : List ℕ). refusedExit k l) (m ∙ ap (λ (x : Bool). cond x over (lent .marks)) (sym q))
+      ∙ ap (λ (x : ℕ). refusedExit x (cond (elem x (repeated ∷ unreached ∷ [])) over (lent .marks))) (sym e)
+      ∙ sym (call-refused file source P schedule lent (ap plays e ∙ p))
+
+  module _ {head : ReadAnswer} (judged : head ≡ earlyAnswer file source P schedule (lengthsOf lent)) where
+    -- a refusal before the chains are walked
+    pub search-early : {r : Answer} → (head .number ≡ 0 → ⊥) → r ≡ refusal (head .number) → searchExit r lent ≡ outcomeOfSearch file source P schedule lent
+    search-early h e =
+        let k = first early in
+        let same : head .number ≡ k = early-number file source P schedule (lengthsOf lent) judged in
+        let found : k ≡ 0 → ⊥ = λ z. h (same ∙ z) in
+        let stopped : first (early ++ chainRefusals file) ≡ k = first-append-stop early (chainRefusals file) (omega arith) in
+        let none = early-plays file source P schedule (lengthsOf lent) found in
+        let all : number ≡ k = number-parts ∙ first-append-stop (early ++ chainRefusals file) last (omega arith) ∙ stopped in
+        ap (λ (x : Answer). searchExit x lent) (e ∙ ap refusal same) ∙ refused-outcome false all (none .0) (none .1) refl
+
+    module _ (passed : head .number ≡ 0) where
+      -- what the judgement tells
+      abbrev told : Passed file source P schedule (lengthsOf lent) head
+      told = early-passed file source P schedule (lengthsOf lent) judged passed
+
+      -- the number is that of the chains, or of the run
+      number-later : number ≡ first (chainRefusals file ++ last)
+      number-later =
+          number-parts
+          ∙ ap first (append-assoc early (chainRefusals file) last)
+          ∙ first-append early (chainRefusals file ++ last) early-positive (told .none)
+
+      module _ {k : ℕ} {offsets′ targets′ marks′ : List ℕ}
+          (walked : Unchained file (head .edges) k (lent .offsets) (lent .targets) (lent .marks) offsets′ targets′ marks′) where
+        -- the marks are cleared
+        marks-clear : marks′ ≡ overlay (replicate (edgeCount file) 0) (lent .marks)
+        marks-clear = walked .cleared ∙ ap (λ (m : ℕ). overlay (replicate m 0) (lent .marks)) (told .scanned .sized .edges)
+
+        -- a refusal of the chains
+        pub search-chains : {r : Answer} → (k ≡ 0 → ⊥) → r ≡ refusal k
+            → searchExit r (lentLists offsets′ targets′ marks′ (lent .distances) (lent .parents) (lent .left) (lent .right) (lent .number))
+            ≡ outcomeOfSearch file source P schedule lent
+        unfolding writesRows
+        search-chains h e =
+            let same = walked .judged in
+            let found : first (chainRefusals file) ≡ 0 → ⊥ = λ z. h (same ∙ z) in
+            let none = chain-plays file found in
+            let all : number ≡ first (chainRefusals file) = number-later ∙ first-append-stop (chainRefusals file) last (omega arith) in
+            let starts : offsets′ ≡ lent .offsets = rw (ne-eqb k 0 h) at (walked .starts) in
+            let ends : targets′ ≡ lent .targets = rw (ne-eqb k 0 h) at (walked .ends) in
+            (λ i. searchExit ((e ∙ ap refusal same) i)
+            (lentLists (starts i) (ends i) marks′ (lent .distances) (lent .parents) (lent .left) (lent .right) (lent .number)))
+            ∙ refused-outcome true all (none .0) (none .1) marks-clear
+
+        module _ (whole : k ≡ 0) where
+          -- every test on the input is passed
+          input-passed : first (inputRefusals file source P schedule lent) ≡ 0
+          input-passed = ap first input-parts ∙ first-append early (chainRefusals file) early-positive (told .none) ∙ sym (walked .judged) ∙ whole
+
+          -- n and m of the graph
+          sizes : (length (graphOf file) ≡ head .vertices) × (length (targetsOf (graphOf file)) ≡ head .edges)
+          sizes =
+              let graph = call-sizes file source P schedule lent input-passed in
+              (graph .0 ∙ sym (told .scanned .sized .vertices), graph .1 ∙ sym (told .scanned .sized .edges))
+
+          -- the offsets are written
+          starts-written : offsets′ ≡ overlay (offsetsOf (graphOf file)) (lent .offsets)
+          unfolding writesRows
+          starts-written = rw whole at (walked .starts)
+
+          -- the targets are written
+          ends-written : targets′ ≡ overlay (targetsOf (graphOf file)) (lent .targets)
+          unfolding writesRows
+          ends-written = rw whole at (walked .ends)
+
+          -- their first n + 1 places are the offsets of the graph
+          first-starts : take (head .vertices + 1) offsets′ ≡ offsetsOf (graphOf file)
+          unfolding overlay
+          first-starts =
+              let long = length-offsets (graphOf file) in
+              ap (λ (l : List ℕ). take (head .vertices + 1) l) starts-written
+              ∙ take-at (offsetsOf (graphOf file)) (drop (length (offsetsOf (graphOf file))) (lent .offsets)) (head .vertices + 1) (omega (arith, sizes .0))
+
+          -- their first m places are the targets of the graph
+          first-ends : take (head .edges) targets′ ≡ targetsOf (graphOf file)
+          unfolding overlay
+          first-ends =
+              ap (λ (l : List ℕ). take (head .edges) l) ends-written
+              ∙ take-at (targetsOf (graphOf file)) (drop (length (targetsOf (graphOf file))) (lent .targets)) (head .edges) (sizes .1)
+
+          -- so these places hold the rows of the file's graph
+          rows-graph : rowsOf (take (head .vertices + 1) offsets′) (take (head .edges) targets′) ≡ graphOf file
+          rows-graph = rw (first-starts, first-ends) (graph-again (graphOf file))
+
+          -- a run may start
+          pub search-playable : Playable (head .vertices) (head .edges) source P schedule offsets′ targets′ (lent .distances) (lent .parents) (lent .left)
+              (lent .right) (lent .number)
+          search-playable =
+              let g = graphOf file in
+              let accepted = call-accepted file source P schedule lent input-passed in
+              let long = told .long in
+              let starts-there : head .vertices + 1 ≤ length offsets′ =
+              rw starts-written (omega (arith, overlay-long (offsetsOf g) (lent .offsets), length-offsets g, sizes .0)) in
+              let ends-there : head .edges ≤ length targets′ = rw ends-written (omega (arith, overlay-long (targetsOf g) (lent .targets), sizes .1)) in
+              record {
+                rows = record {
+                  starts = first-starts ∙ ap offsetsOf (sym rows-graph);
+                  ends = first-ends ∙ ap targetsOf (sym rows-graph);
+                  count = ap length rows-graph ∙ sizes .0;
+                  below = rw (first-ends, ← (sizes .0)) (accepted .targets-below);
+                  few-vertices = told .scanned .sized .fewVertices;
+                  few-edges = rw (first-ends, sizes .1) (told .scanned .sized .fewEdges);
+                };
+                accepted = rw rows-graph accepted;
+                few-events = schedule-passed schedule P (call-parts file source P schedule lent input-passed .schedule-tests) .few-events;
+                offsets-there = starts-there;
+                targets-there = ends-there;
+                distances-there = long .distances-there;
+                parents-there = long .parents-there;
+                left-there = long .left-there;
+                right-there = long .right-there;
+                number-there = long .number-there;
+              }
+
+          -- a run was played
+          pub search-played : {distances′ parents′ left′ right′ number′ : List ℕ} {r : Answer}
+              → PlayedOut (play (rowsOf (take (head .vertices + 1) offsets′) (take (head .edges) targets′)) source P schedule) (nodePlaces (head .vertices) P)
+              (lent .distances) (lent .parents) (lent .left) (lent .right) (lent .number) distances′ parents′ left′ right′ number′ r
+              → searchExit r (lentLists offsets′ targets′ marks′ distances′ parents′ left′ right′ number′) ≡ outcomeOfSearch file source P schedule lent
+          unfolding runOf
+          search-played out =
+              let out′ = rw (rows-graph, told .scanned .sized .vertices) at out in
+              let decided = call-number file source P schedule lent input-passed in
+              let answered = out′ .told .number ∙ sym decided in
+              (λ i. record {
+                answer = record { number = answered i; used = out′ .told .used i; effective = out′ .told .effective i; layer = out′ .told .layer i };
+                lent = lentLists (starts-written i) (ends-written i) (marks-clear i) (out′ .labelled i) (out′ .named i) (out′ .left-clear i) (out′ .right-clear i)
+                    (out′ .number-clear i);
+              })
+              ∙ sym (call-played file source P schedule lent (ap plays decided ∙ run-plays (runOf file source P schedule .state .finished)))

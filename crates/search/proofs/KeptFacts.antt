@@ -1,0 +1,157 @@
+-- A call that has the model's outcome keeps what a search promises: all of it follows from that one equation.
+use mathlib.Core.Path.{_≡_, refl, sym, ap, _∙_, subst}
+use mathlib.Core.Bool.{Bool, true, false, cond}
+use mathlib.Core.List.{List, [], _∷_, map}
+use mathlib.Core.Option.{Option, none, some}
+use Prim.Native.Nat.{ℕ, suc, _<_}
+use native.Mathlib.Omega.{arith}
+use lib.ListN.{length, getD, take, drop, length-map}
+use lib.Seq.{take-at, take-length}
+use borrow.Author.Tests.{ne-eqb}
+use Rattle.numbers.specs.Numbers.{unset, success, unfinished}
+use Rattle.lists.specs.Lists.{overlay, elem}
+use Rattle.graph.specs.File.{vertexCount, graphOf}
+use Rattle.graph.proofs.FileLists.{length-graph}
+use Rattle.model.specs.State.{State}
+use Rattle.model.specs.Play.{Run, play, stateAt}
+use Rattle.model.specs.Demand.{Demand, Fitting}
+use Rattle.model.specs.Call.{Lent, Outcome, wordOf, runOf, searchNumber, plays, outcomeOfSearch}
+use Rattle.model.proofs.Calls.{call-passed, call-sizes, call-demand, call-number, call-rounds, call-played, call-refused, call-effective}
+use Rattle.search.specs.declared.Answer.{Answer}
+use Rattle.search.specs.Shown.{optionOf, labelsOf}
+use Rattle.search.specs.Promise.{searchExit, labelsIn, Kept}
+
+-- Labels as words.
+
+-- the word of a label stands for it
+word-back : (o : Option ℕ) → ((x : ℕ) → o ≡ some x → x < unset) → optionOf (wordOf o) ≡ o
+unfolding optionOf wordOf
+word-back none h = refl
+word-back (some x) h = let low = h x refl in rw (ne-eqb x unset (λ e. omega arith))
+
+-- so do the words of a list of labels
+words-back : (l : List (Option ℕ)) → ((v x : ℕ) → getD l v none ≡ some x → x < unset) → map optionOf (map wordOf l) ≡ l
+words-back [] h = refl
+words-back (o ∷ l) h = rw (word-back o (h 0), words-back l (λ v. h (suc v)))
+
+-- laid over the first n places of a list
+laid-back : (n : ℕ) (l : List (Option ℕ)) (old : List ℕ) → length l ≡ n → ((v x : ℕ) → getD l v none ≡ some x → x < unset)
+    → map optionOf (take n (overlay (map wordOf l) old)) ≡ l
+unfolding overlay
+laid-back n l old e h =
+    let words = map wordOf l in
+    ap (λ (k : List ℕ). map optionOf k) (take-at words (drop (length words) old) n (length-map l wordOf ∙ e)) ∙ words-back l h
+
+-- Numbers of a run.
+
+-- 0 only where it is finished
+finished-zero : (b : Bool) {k : ℕ} → k ≡ cond b success unfinished → k ≡ success → b ≡ true
+finished-zero true e z = refl
+finished-zero false e z = absurd (omega arith)
+
+-- 21 only where it isn't
+unfinished-spent : (b : Bool) {k : ℕ} → k ≡ cond b success unfinished → k ≡ unfinished → b ≡ false
+unfinished-spent true e z = absurd (omega arith)
+unfinished-spent false e z = refl
+
+module _ (file : List ℕ) (source P : ℕ) (schedule : List ℕ) (lent : Lent) where
+  -- the file's graph
+  abbrev g : List (List ℕ)
+  g = graphOf file
+
+  -- the run
+  abbrev run : Run
+  run = play g source P schedule
+
+  -- the call's number is that of the outcome
+  outcome-number : (b : Bool) → plays (searchNumber file source P schedule lent) ≡ b
+      → outcomeOfSearch file source P schedule lent .answer .number ≡ searchNumber file source P schedule lent
+  outcome-number true p = ap (λ (o : Outcome). o .answer .number) (call-played file source P schedule lent p)
+  outcome-number false p = ap (λ (o : Outcome). o .answer .number) (call-refused file source P schedule lent p)
+
+  module _ {r : Answer} {after : Lent} (e : searchExit r after ≡ outcomeOfSearch file source P schedule lent) where
+    -- the answer's number is the model's
+    answered : r .number ≡ searchNumber file source P schedule lent
+    answered = ap (λ (o : Outcome). o .answer .number) e ∙ outcome-number _ refl
+
+    -- A call that plays.
+    module _ (p : plays (r .number) ≡ true) where
+      -- so does the model's number
+      played : plays (searchNumber file source P schedule lent) ≡ true
+      played = ap plays (sym answered) ∙ p
+
+      -- demand 3 of its run
+      demanded : Demand g source P schedule
+      demanded = call-demand file source P schedule lent (call-passed file source P schedule lent played)
+
+      -- its number
+      decided : r .number ≡ cond (run .state .finished) success unfinished
+      unfolding runOf
+      decided = answered ∙ call-number file source P schedule lent (call-passed file source P schedule lent played)
+
+      -- its used events are the run's
+      used : r .used ≡ run .used
+      used = ap (λ (o : Outcome). o .answer .used) (e ∙ call-played file source P schedule lent played)
+
+      -- its effective events are the run's
+      effective : r .effective ≡ run .effective
+      effective = ap (λ (o : Outcome). o .answer .effective) (e ∙ call-played file source P schedule lent played)
+
+      -- the state after all bytes is the run's
+      all-bytes : stateAt g source P schedule (length schedule) ≡ run .state
+      unfolding stateAt
+      all-bytes = ap (λ (l : List ℕ). play g source P l .state) (take-length schedule)
+
+      -- so what holds at every moment holds at the end
+      fitting : Fitting g P (run .state)
+      fitting = subst (λ (s : State). Fitting g P s) all-bytes (demanded .fitting (length schedule))
+
+      -- a label below n is below 65,535
+      low : {x : ℕ} → x < length g → x < unset
+      low h = omega (arith, call-sizes file source P schedule lent (call-passed file source P schedule lent played) .2)
+
+      -- its lists hold the run's labels
+      labels : labelsIn (vertexCount file) (after .distances) (after .parents) ≡ run .state .labels
+      unfolding labelsIn labelsOf
+      labels =
+          let n = vertexCount file in
+          let x = run .state .labels in
+          let lists = e ∙ call-played file source P schedule lent played in
+          let far = ap (λ (o : Outcome). map optionOf (take n (o .lent .distances))) lists
+          ∙ laid-back n (x .distances) (lent .distances) (fitting .distances-all ∙ length-graph file) (λ v d h. low (fitting .distances-below v d h)) in
+          let near = ap (λ (o : Outcome). map optionOf (take n (o .lent .parents))) lists
+          ∙ laid-back n (x .parents) (lent .parents) (fitting .parents-all ∙ length-graph file) (λ v d h. low (fitting .parents-below v d h)) in
+          λ i. record { distances = far i; parents = near i }
+
+    -- 0 is the number of a call that plays
+    success-plays : r .number ≡ success → plays (r .number) ≡ true
+    unfolding plays elem
+    success-plays z = ap plays z
+
+    -- so is 21
+    unfinished-plays : r .number ≡ unfinished → plays (r .number) ≡ true
+    unfolding plays elem
+    unfinished-plays z = ap plays z
+
+    -- with 0 the run is finished
+    whole : (z : r .number ≡ success) → run .state .finished ≡ true
+    whole z = finished-zero (run .state .finished) (decided (success-plays z)) z
+
+    -- with 21 it isn't
+    partial : (z : r .number ≡ unfinished) → run .state .finished ≡ false
+    partial z = unfinished-spent (run .state .finished) (decided (unfinished-plays z)) z
+
+    -- all that is promised
+    pub kept : Kept file source P schedule lent r after
+    kept = record {
+      demand = demanded;
+      spent = λ z. used (unfinished-plays z) ∙ demanded (unfinished-plays z) .used-spent (partial z);
+      finished = λ z. rw (used (success-plays z)) (demanded (success-plays z) .used-finished (whole z));
+      counted = λ p. rw (effective p, used p) (demanded p .counted);
+      bounded = rw (ap (λ (o : Outcome). o .answer .effective) e) (call-effective file source P schedule lent);
+      below = λ z. rw (effective (unfinished-plays z)) (demanded (unfinished-plays z) .below (partial z));
+      enough-rounds = λ passed h. answered ∙ call-rounds file source P schedule lent passed h;
+      final = λ p v d h. demanded p .final (length schedule) v d (rw (all-bytes p, ← (labels p)) h);
+      right-result = λ z. rw (labels (success-plays z)) (demanded (success-plays z) .right-result (whole z));
+      link-by-link = λ z. rw (labels (success-plays z), ← (length-graph file)) (demanded (success-plays z) .link-by-link (whole z));
+    }

@@ -1,0 +1,79 @@
+-- Playing a schedule on the first places of longer lists: what a run takes for granted of those parts, and the whole lists after it.
+use mathlib.Core.Path.{_≡_, sym, ap, _∙_}
+use mathlib.Core.List.{List, _++_}
+use Prim.Native.Nat.{ℕ, _+_, _≤_}
+use native.Mathlib.Omega.{arith}
+use lib.ListN.{length, take, drop, replicate, length-replicate}
+use lib.Seq.{length-take-le, drop-at}
+use Rattle.lists.specs.Lists.{overlay}
+use Rattle.lists.proofs.Overlay.{overlay-kept}
+use Rattle.graph.specs.Graph.{rowsOf}
+use Rattle.model.specs.Play.{play}
+use Rattle.model.specs.Call.{nodePlaces}
+use Rattle.search.specs.declared.Answer.{Answer}
+use Rattle.search.specs.Runs.{Runnable, Ran, Playable, PlayedOut}
+
+-- the first places of a list that has them
+pub part-length : (n : ℕ) (l : List ℕ) → n ≤ length l → n ≡ length (take n l)
+part-length n l h = sym (length-take-le n l h)
+
+-- those places written, and the rest as it was
+part-laid : (n : ℕ) (old : List ℕ) {new written : List ℕ} → n ≤ length old → length written ≡ length (take n old) → written ≡ new
+    → written ++ drop n old ≡ overlay new old
+unfolding overlay
+part-laid n old {new} {written} h k e =
+    ap (λ (i : ℕ). written ++ drop i old) (part-length n old h ∙ sym k) ∙ ap (λ (l : List ℕ). overlay l old) e
+
+-- zeros laid over them afterwards
+part-cleared : (n : ℕ) (old written : List ℕ) {after : List ℕ} → n ≤ length old → length written ≡ length (take n old)
+    → after ≡ overlay (replicate n 0) (written ++ drop n old) → after ≡ overlay (replicate n 0) old
+part-cleared n old written h k e =
+    let zeros : List ℕ = replicate n 0 in
+    let size : length zeros ≡ n = length-replicate n 0 in
+    let rest : drop n (written ++ drop n old) ≡ drop n old = drop-at written (drop n old) n (k ∙ sym (part-length n old h)) in
+    e ∙ overlay-kept zeros old (written ++ drop n old) (rw size rest)
+
+module _ {n m source P : ℕ} {schedule offsets targets distances parents left right number : List ℕ}
+    (p : Playable n m source P schedule offsets targets distances parents left right number) where
+  -- what a run takes for granted of the parts
+  pub play-runnable : Runnable source P schedule (take (n + 1) offsets) (take m targets) (take n distances) (take n parents) (take (nodePlaces n P) left)
+      (take (nodePlaces n P) right) (take (nodePlaces n P) number)
+  play-runnable =
+      let some-distances = length-take-le n distances (p .distances-there) in
+      let some-parents = length-take-le n parents (p .parents-there) in
+      let some-left = length-take-le (nodePlaces n P) left (p .left-there) in
+      let some-right = length-take-le (nodePlaces n P) right (p .right-there) in
+      let some-number = length-take-le (nodePlaces n P) number (p .number-there) in
+      record {
+        rows = rw some-distances (p .rows);
+        accepted = p .accepted;
+        few-events = p .few-events;
+        sized = record {
+          few-vertices = rw some-distances (p .rows .few-vertices);
+          some-worker = p .accepted .some-worker;
+          few-workers = p .accepted .few-workers;
+          parents-all = some-parents ∙ sym some-distances;
+          nodes = some-left ∙ ap (λ (k : ℕ). nodePlaces k P) (sym some-distances);
+          wide = omega arith;
+          numbered = omega arith;
+        };
+      }
+
+  -- the whole lists after the run and the clearing
+  pub play-done : (left′ right′ number′ : List ℕ) {answer : Answer} {distances′ parents′ left″ right″ number″ : List ℕ}
+      → Ran (play (rowsOf (take (n + 1) offsets) (take m targets)) source P schedule) distances′ parents′ answer
+      → length distances′ ≡ length (take n distances) → length parents′ ≡ length (take n parents) → length left′ ≡ length (take (nodePlaces n P) left)
+      → length right′ ≡ length (take (nodePlaces n P) right) → length number′ ≡ length (take (nodePlaces n P) number)
+      → left″ ≡ overlay (replicate (nodePlaces n P) 0) (left′ ++ drop (nodePlaces n P) left)
+      → right″ ≡ overlay (replicate (nodePlaces n P) 0) (right′ ++ drop (nodePlaces n P) right)
+      → number″ ≡ overlay (replicate (nodePlaces n P) 0) (number′ ++ drop (nodePlaces n P) number)
+      → PlayedOut (play (rowsOf (take (n + 1) offsets) (take m targets)) source P schedule) (nodePlaces n P) distances parents left right number
+      (distances′ ++ drop n distances) (parents′ ++ drop n parents) left″ right″ number″ answer
+  play-done left′ right′ number′ ran d q l r k clear-left clear-right clear-number = record {
+    told = ran .told;
+    labelled = part-laid n distances (p .distances-there) d (ran .distances);
+    named = part-laid n parents (p .parents-there) q (ran .parents);
+    left-clear = part-cleared (nodePlaces n P) left left′ (p .left-there) l clear-left;
+    right-clear = part-cleared (nodePlaces n P) right right′ (p .right-there) r clear-right;
+    number-clear = part-cleared (nodePlaces n P) number number′ (p .number-there) k clear-number;
+  }

@@ -1,0 +1,66 @@
+-- What a search promises, whatever it is called with: the model's outcome, and demand 3 of this very call, in terms of its answer and of the lists
+-- that it leaves.
+use mathlib.Core.Path.{_≡_}
+use mathlib.Core.Bool.{true}
+use mathlib.Core.List.{List}
+use mathlib.Core.Option.{some}
+use Prim.Native.Nat.{ℕ, _≤_, _<_}
+use lib.ListN.{length, take}
+use Rattle.numbers.specs.Numbers.{success, unfinished}
+use Rattle.numbers.specs.Refusals.{first}
+use Rattle.lists.specs.Lists.{numbersFrom, sumOf}
+use Rattle.graph.specs.File.{vertexCount, graphOf}
+use Rattle.model.specs.Paths.{Labels, Distance, distanceOf, RightResult}
+use Rattle.model.specs.State.{openingLabels}
+use Rattle.model.specs.Play.{metAt, rounds, eventBound}
+use Rattle.model.specs.Serial.{Serial}
+use Rattle.model.specs.Demand.{Demand, Finisher}
+use Rattle.model.specs.Call as call
+use Rattle.search.specs.declared.Answer.{Answer}
+use Rattle.search.specs.Shown.{labelsOf}
+
+-- the lists that the caller lends
+abbrev pub lentLists : List ℕ → List ℕ → List ℕ → List ℕ → List ℕ → List ℕ → List ℕ → List ℕ → call.Lent
+lentLists offsets targets marks distances parents left right number = record {
+  offsets = offsets;
+  targets = targets;
+  marks = marks;
+  distances = distances;
+  parents = parents;
+  left = left;
+  right = right;
+  number = number;
+}
+
+-- what the call answered, and the lists at exit
+abbrev pub searchExit : Answer → call.Lent → call.Outcome
+searchExit r after = record { answer = record { number = r .number; used = r .used; effective = r .effective; layer = r .layer }; lent = after }
+
+-- the labels in the first n places of two lists
+unfoldable pub labelsIn : ℕ → List ℕ → List ℕ → Labels
+labelsIn n distances parents = labelsOf (take n distances) (take n parents)
+
+module _ (file : List ℕ) (source P : ℕ) (schedule : List ℕ) (lent : call.Lent) where
+  -- demand 3 of a call that answered so and left the lists so
+  pub record Kept (r : Answer) (after : call.Lent) : Type 0 where
+    -- the model's theorem, field by field, for what this call was given: a call that plays is one of those it is about
+    pub demand : call.plays (r .number) ≡ true → Demand (graphOf file) source P schedule
+    -- 21 only "with .. all of them" played, 0 only with a finishing event, the last one used
+    pub spent : r .number ≡ unfinished → r .used ≡ length schedule
+    pub finished : r .number ≡ success → Finisher (graphOf file) source P schedule (r .used)
+    -- "The effective events reported are the number of used bytes whose condition, by that table, was met at their turn."
+    pub counted : call.plays (r .number) ≡ true → r .effective ≡ sumOf (metAt (graphOf file) source P schedule) (numbersFrom 0 (r .used))
+    -- "Their count is at most P × (6 × n + m) + n": with any number, and below it with 21
+    pub bounded : r .effective ≤ eventBound (graphOf file) P
+    pub below : r .number ≡ unfinished → r .effective < eventBound (graphOf file) P
+    -- that many full rounds finish: with an input that passes every test the number is then 0
+    pub enough-rounds : first (call.inputRefusals file source P schedule lent) ≡ success → eventBound (graphOf file) P ≤ rounds P schedule
+        → r .number ≡ success
+    -- "Written distances are final": what stands in the caller's list is the distance, with 0 and 21 alike
+    pub final : call.plays (r .number) ≡ true → (v d : ℕ)
+        → distanceOf (labelsIn (vertexCount file) (after .distances) (after .parents)) v ≡ some d → Distance (graphOf file) source v d
+    -- with 0 the caller's lists hold the right result ..
+    pub right-result : r .number ≡ success → RightResult (graphOf file) source (labelsIn (vertexCount file) (after .distances) (after .parents))
+    -- .. as a link-by-link run leaves it, with some order of each layer's links
+    pub link-by-link : r .number ≡ success
+        → Serial (graphOf file) 0 (openingLabels (vertexCount file) source) (labelsIn (vertexCount file) (after .distances) (after .parents))
