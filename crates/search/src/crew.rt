@@ -133,13 +133,13 @@ pub fn gather(crew: [Worker; 8], workers: usize, left: &mut [u16], right: &mut [
 {
     let first = crew[0];
     let mut bag = first.input;
-    let mut w = 0;
-    while w < workers {
-        let worker = crew[w];
+    let mut next = 0;
+    while next < workers {
+        let worker = crew[next];
         let output = worker.output;
         let united = bag::union(bag, output, left, right);
         bag = united;
-        w += 1;
+        next += 1;
     }
     bag
 }

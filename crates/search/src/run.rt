@@ -129,11 +129,12 @@ pub fn run(
             Event::Close => {
                 if all_idle(crew, workers) {
                     let united = gather(crew, workers, left, right);
+                    let next = layer + 1;
                     effective += 1;
                     if bag::is_empty(united) {
                         return answer(numbers::SUCCESS, used, effective, layer);
                     }
-                    layer += 1;
+                    layer = next;
                     crew = opened(united);
                 }
             }

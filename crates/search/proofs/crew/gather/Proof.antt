@@ -9,10 +9,10 @@ use Rattle.search.proofs.crew.gather.Statement.{statement}
 use Rattle.search.proofs.crew.gather.Tie as tie
 
 abbrev Inv-loop : tie.InvT-loop
-Inv-loop workers left₀ right₀ crew bag₀ w₀ left right bag w = Gathering (take workers crew) left₀ right₀ w left right (bag .slots)
+Inv-loop workers left₀ right₀ crew bag₀ next₀ left right bag next = Gathering (take workers crew) left₀ right₀ next left right (bag .slots)
 
 abbrev μ-loop : tie.MeasureT-loop
-μ-loop workers left₀ right₀ crew bag₀ w₀ left right bag w = workers - w
+μ-loop workers left₀ right₀ crew bag₀ next₀ left right bag next = workers - next
 
 array-copy-out-first : tie.Need-array-copy-out-first Inv-loop μ-loop
 array-copy-out-first c = search needs
@@ -34,10 +34,10 @@ union-requires c κs =
     let at-loop = c .before .before .before .before .before in
     let start = at-loop .before .before .before .before .before in
     let long : length (start .args .t1) ≡ 8 = search needs in
-    gather-next-requires (start .args .t1) (start .args .workers) pastCrew (search needs) (at-loop .loop .w) (at-loop .loop .inv) (search needs)
+    gather-next-requires (start .args .t1) (start .args .workers) pastCrew (search needs) (at-loop .loop .next) (at-loop .loop .inv) (search needs)
 
-add-w : tie.Need-add-w Inv-loop μ-loop
-add-w c = search needs
+add-next : tie.Need-add-next Inv-loop μ-loop
+add-next c = search needs
 
 loop-less : tie.Need-loop-less Inv-loop μ-loop
 loop-less c = search needs
@@ -47,7 +47,7 @@ loop-again c =
     let at-loop = c .before .before .before .before .before .before .before .before .before .before in
     let start = at-loop .before .before .before .before .before in
     let long : length (start .args .t1) ≡ 8 = search needs in
-    gather-next (start .args .t1) (start .args .workers) pastCrew (search needs) (at-loop .loop .w) (at-loop .loop .inv) (search needs)
+    gather-next (start .args .t1) (start .args .workers) pastCrew (search needs) (at-loop .loop .next) (at-loop .loop .inv) (search needs)
     (c .before .before .before .before .union .ensures)
 
 same-length : tie.Need-same-length Inv-loop μ-loop
@@ -61,7 +61,7 @@ returns c =
     let at-loop = c .before in
     let start = at-loop .before .before .before .before .before in
     let long : length (start .args .t1) ≡ 8 = search needs in
-    gather-last (start .args .t1) (start .args .workers) pastCrew (search needs) (at-loop .loop .w) (start .pre .1 .some-worker) (search needs) (at-loop .loop .inv)
+    gather-last (start .args .t1) (start .args .workers) pastCrew (search needs) (at-loop .loop .next) (start .pre .1 .some-worker) (search needs) (at-loop .loop .inv)
 
 pub gather-spec : {M : Type 1} → statement M
 gather-spec =
@@ -74,7 +74,7 @@ gather-spec =
     mul-worker
     array-copy-out-worker
     union-requires
-    add-w
+    add-next
     loop-less
     loop-again
     same-length

@@ -478,6 +478,16 @@ gather-requires c κs =
     let idle = c .before .before .if1 .taken in
     (start .pre .accepted .few-workers, gather-able rows (start .pre .accepted) now (λ offsets number. sym (tested offsets _ _ number) ∙ idle))
 
+add-next : tie.Need-add-next Inv-loop μ-loop
+add-next c =
+    let turn = c .before .before .before .before .before .before .before .before .before .before .before .before .before in
+    let at = turn .before in
+    let entered = at .before .before .before .before .before .before .before .before .before .before .before .before in
+    let start = entered .before .before .before .before .before .before .before .before .before .before .before .before .before .before in
+    let rows = own-rows (start .pre .rows) in
+    let now = at .loop .inv .0 in
+    record { fits = layer-fits (layer-low rows (start .pre .accepted) now) (rows .few-vertices) }
+
 add-effective-4 : tie.Need-add-effective-4 Inv-loop μ-loop
 add-effective-4 c =
     let turn = c .before .before .before .before .before .before .before .before .before .before .before .before .before in
@@ -530,16 +540,6 @@ returns c =
     let gathered = c .before .before .before .before .before .before .before .gather in
     let empty = sym (c .before .before .is-empty .ensures _ _) ∙ c .before .if2 .taken in
     ended-ran rows (start .pre .accepted) now (turn .loop-test .taken) event refl idle (gathered .ensures) empty (c .answer .ensures)
-
-add-layer : tie.Need-add-layer Inv-loop μ-loop
-add-layer c =
-    let turn = c .before .before .before .before .before .before .before .before .before .before .before .before .before .before .before in
-    let at = turn .before in
-    let entered = at .before .before .before .before .before .before .before .before .before .before .before .before in
-    let start = entered .before .before .before .before .before .before .before .before .before .before .before .before .before .before in
-    let rows = own-rows (start .pre .rows) in
-    let now = at .loop .inv .0 in
-    record { fits = layer-fits (layer-low rows (start .pre .accepted) now) (rows .few-vertices) }
 
 opened-requires-2 : tie.Need-opened-requires-2 Inv-loop μ-loop
 opened-requires-2 c κs = search needs
@@ -690,6 +690,7 @@ run-spec =
     enum-told
     all-idle-requires
     gather-requires
+    add-next
     add-effective-4
     is-empty-requires
     answer-requires
@@ -699,7 +700,6 @@ run-spec =
     same-length-4
     same-length-5
     returns
-    add-layer
     opened-requires-2
     loop-less-4
     loop-again-4
