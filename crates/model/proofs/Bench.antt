@@ -16,7 +16,7 @@ use Rattle.schedule.specs.Check.{anyStray, scheduleRefusals}
 use Rattle.model.specs.State.{openingLabels, openingState}
 use Rattle.model.specs.Table.{holdAt, look, mark, name, move, afterMove, splitInputs, uniteOutputs, isFree, allIdle, unitedOutputs, closed, act}
 use Rattle.model.specs.Play.{tally, step, playFrom, play}
-use Rattle.model.specs.Call.{lentShort, runOf, inputRefusals, searchRefusals, searchNumber, plays, answerBy, wordOf, sweepsMarks, lentAfter, outcomeOfSearch}
+use Rattle.model.specs.Call.{lengthsShort, earlyRefusals, runOf, inputRefusals, searchRefusals, searchNumber, plays, answerBy, wordOf, sweepsMarks, lentAfter, outcomeOfSearch}
 use Rattle.model.specs.Bench.{Case, Expected, lentFor, answersOf, outcomeOfCase, benchTable}
 
 -- each outcome is the expected one
@@ -26,6 +26,6 @@ unfolding first overlay chainFrom numbersFrom sumsFrom elem repeats lacks reache
     chainRefusals rowsShort clearsMarks bytesOf pennantUnion pennantFirst pennantSecond emptyBag insertPennant bagInsert insertFilled adderSum
     adderCarry addFrom bagUnion splitFirst splitSecond spread takeFrom takeRest takenNumber isEmpty atLeastTwo weighTree weighSlot weigh formOf
     eventOf within anyStray scheduleRefusals openingLabels openingState holdAt look mark name move afterMove splitInputs uniteOutputs isFree
-    allIdle unitedOutputs closed act tally step playFrom play lentShort runOf inputRefusals searchRefusals searchNumber plays answerBy wordOf
+    allIdle unitedOutputs closed act tally step playFrom play lengthsShort earlyRefusals runOf inputRefusals searchRefusals searchNumber plays answerBy wordOf
     sweepsMarks lentAfter outcomeOfSearch lentFor answersOf upTo outcomeOfCase benchTable
 bench-cases = refl

@@ -21,7 +21,7 @@ use Rattle.graph.proofs.WellFormed.{header-sized, scan-bounded, chains-partitio
 use Rattle.schedule.specs.Check.{scheduleRefusals}
 use Rattle.schedule.proofs.Schedules.{positive-schedule, schedule-passed}
 use Rattle.model.specs.Play.{play, rounds, eventBound}
-use Rattle.model.specs.Call.{Lent, lentShort, runOf, inputRefusals, searchRefusals, searchNumber, plays, answerBy, wordOf, sweepsMarks, lentAfter}
+use Rattle.model.specs.Call.{Lent, lengthsOf, lengthsShort, earlyRefusals, runOf, inputRefusals, searchRefusals, searchNumber, plays, answerBy, wordOf, sweepsMarks, lentAfter}
 use Rattle.model.specs.Call.{outcomeOfSearch}
 use Rattle.model.specs.Demand.{Accepted, Demand}
 use Rattle.model.proofs.Theorem.{demand-holds}
@@ -53,8 +53,13 @@ module _ (file : List ℕ) (source P : ℕ) (schedule : List ℕ) (lent : Lent) 
 
   -- all numbers of the input's tests are positive, and below 21
   input-numbers : Positive input × Under unfinished input
-  unfolding inputRefusals headerRefusals scanRefusals scheduleRefusals chainRefusals
+  unfolding inputRefusals earlyRefusals headerRefusals scanRefusals scheduleRefusals chainRefusals
   input-numbers = omega arith
+
+  -- so are those of the tests before the chains
+  early-positive : Positive (earlyRefusals file source P schedule (lengthsOf lent))
+  unfolding earlyRefusals headerRefusals scanRefusals scheduleRefusals
+  early-positive = omega arith
 
   -- a call that answers 0 or 21 has an input that passes
   pub call-passed : plays number ≡ true → first input ≡ 0
@@ -76,22 +81,24 @@ module _ (file : List ℕ) (source P : ℕ) (schedule : List ℕ) (lent : Lent) 
       pub scan : first (scanRefusals file) ≡ 0
       pub source-test : leb (vertexCount file) source ≡ false
       pub schedule-tests : first (scheduleRefusals schedule P) ≡ 0
-      pub needs : lentShort (vertexCount file) (edgeCount file) P lent ≡ false
+      pub needs : lengthsShort (vertexCount file) (edgeCount file) P (lengthsOf lent) ≡ false
       pub whole : first (chainRefusals file) ≡ 0
 
     pub call-parts : Parts
-    unfolding inputRefusals headerRefusals scanRefusals scheduleRefusals
+    unfolding inputRefusals earlyRefusals headerRefusals scanRefusals scheduleRefusals
     call-parts =
         let n = vertexCount file in
-        let needed = lentShort n (edgeCount file) P lent in
-        let rest = needed gives shortList ∷ chainRefusals file in
+        let early = earlyRefusals file source P schedule (lengthsOf lent) in
+        let needed = lengthsShort n (edgeCount file) P (lengthsOf lent) in
+        let rest = needed gives shortList ∷ [] in
         let far = leb n source in
-        let p = first-split (headerRefusals file) (scanRefusals file ++ far gives badSource ∷ scheduleRefusals schedule P ++ rest) (positive-header file) e in
+        let both = first-split early (chainRefusals file) early-positive e in
+        let p = first-split (headerRefusals file) (scanRefusals file ++ far gives badSource ∷ scheduleRefusals schedule P ++ rest) (positive-header file) (both .0) in
         let q = first-split (scanRefusals file) (far gives badSource ∷ scheduleRefusals schedule P ++ rest) (positive-scan file) (p .1) in
         let r = first-passed far badSource (scheduleRefusals schedule P ++ rest) (omega arith) (q .1) in
         let t = first-split (scheduleRefusals schedule P) rest (positive-schedule schedule P) (r .1) in
-        let w = first-passed needed shortList (chainRefusals file) (omega arith) (t .1) in
-        record { header = p .0; scan = q .0; source-test = r .0; schedule-tests = t .0; needs = w .0; whole = w .1 }
+        let w = first-passed needed shortList [] (omega arith) (t .1) in
+        record { header = p .0; scan = q .0; source-test = r .0; schedule-tests = t .0; needs = w .0; whole = both .1 }
 
     -- n and m of the graph are the file's, and n is within its size
     pub call-sizes : (length (graphOf file) ≡ vertexCount file) × (length (targetsOf (graphOf file)) ≡ edgeCount file) × (length (graphOf file) ≤ maxVertices)

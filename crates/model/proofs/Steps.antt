@@ -14,7 +14,7 @@ use Rattle.schedule.specs.declared.Event.{Event}
 use Rattle.schedule.specs.declared.Event.the-variants.{Work, Split, Unite, Close, Malformed}
 use Rattle.schedule.specs.Events.{eventOf, within}
 use Rattle.schedule.proofs.Bytes.{Staffed, byte-staffed}
-use Rattle.model.specs.Paths.{Distance, Labels, Certified}
+use Rattle.model.specs.Paths.{Distance, Labels, distanceOf, Certified}
 use Rattle.model.specs.State.{Worker, idleWorker, State, workerAt}
 use Rattle.model.specs.Table.{movedState, endedState, replaceWorkers, splitInputs, uniteOutputs, allIdle, unitedOutputs, closed, act}
 use Rattle.model.specs.Play.{Run, tally, step, eventBound}
@@ -28,9 +28,15 @@ use Rattle.model.proofs.Crew.{crew-moves, crew-split, crew-unite}
 use Rattle.model.proofs.Closing.{close-sound, close-opens, close-certified}
 use Rattle.model.proofs.Costs.{work-cost, split-cost, unite-cost, close-cost}
 
--- what an effective event leaves: a sound state, an open layer if d was raised, a certified result if the search is finished, and less to pay
+-- the distances that are set stay as they are set
+abbrev pub Stays : Labels → Labels → Type 0
+Stays a b = (v k : ℕ) → distanceOf a v ≡ some k → distanceOf b v ≡ some k
+
+-- what an effective event leaves: a sound state, what is set as it is set, an open layer if d was raised, a certified result if the search is
+-- finished, and less to pay
 record EventLeaves (g : Graph) (source P : ℕ) (s t : State) : Type 0 where
   sound : Sound g source P t
+  stays : Stays (s .labels) (t .labels)
   opens : (t .layer ≡ s .layer → ⊥) → LayerOpen g source P t
   ended : t .finished ≡ true → Certified g source (t .labels)
   cheaper : suc (cost P g t) ≤ cost P g s
@@ -38,6 +44,7 @@ record EventLeaves (g : Graph) (source P : ℕ) (s t : State) : Type 0 where
 -- what an event leaves that is no close: the layer stays
 record Kept (g : Graph) (source P : ℕ) (s t : State) : Type 0 where
   sound : Sound g source P t
+  stays : Stays (s .labels) (t .labels)
   same-layer : t .layer ≡ s .layer
   same-end : t .finished ≡ s .finished
 
@@ -46,6 +53,7 @@ kept-after : {g : Graph} {source P : ℕ} {s t : State} → Kept g source P s t 
     → EventLeaves g source P s t
 kept-after k live less = record {
   sound = k .sound;
+  stays = k .stays;
   opens = λ other. absurd (other (k .same-layer));
   ended = λ e. absurd (true≢false (sym e ∙ k .same-end ∙ live));
   cheaper = less;
@@ -65,6 +73,7 @@ module _ {g : Graph} {source P : ℕ} where
       let moves = move-after ground (h .labels-sound) (h .crew-sound .each w) near (met .1) in
       let kept : Kept g source P s (movedState s w (met .0)) = record {
         sound = record { labels-sound = moves .0; crew-sound = crew-moves (s .workers) w (met .0 .0) (h .crew-sound) below (moves .1) };
+        stays = moves .1 .keeps;
         same-layer = refl;
         same-end = refl;
       } in
@@ -73,7 +82,12 @@ module _ {g : Graph} {source P : ℕ} where
   -- other workers, the same labels
   workers-kept : (s : State) (workers : List Worker) → Sound g source P s → CrewSound g source P (s .layer) (s .labels) workers
       → Kept g source P s (replaceWorkers s workers)
-  workers-kept s workers h c = record { sound = record { labels-sound = h .labels-sound; crew-sound = c }; same-layer = refl; same-end = refl }
+  workers-kept s workers h c = record {
+    sound = record { labels-sound = h .labels-sound; crew-sound = c };
+    stays = λ v k e. e;
+    same-layer = refl;
+    same-end = refl;
+  }
 
   -- a split
   split-kept : (s t : State) (w v : ℕ) → Sound g source P s → Staffed P (Split w v) → act g s (Split w v) ≡ some t → Kept g source P s t
@@ -100,6 +114,16 @@ closed-filled : (s : State) (bag : Bag) → isEmpty bag ≡ false → closed s b
 unfolding closed
 closed-filled s bag e = rw e
 
+-- either way the labels stay
+closed-labels : (s : State) (bag : Bag) (b : Bool) → isEmpty bag ≡ b → closed s bag .labels ≡ s .labels
+unfolding closed
+closed-labels s bag true e = rw e
+closed-labels s bag false e = rw e
+
+-- and so do the distances that are set
+closed-stays : (s : State) (bag : Bag) → Stays (s .labels) (closed s bag .labels)
+closed-stays s bag v k e = ap (λ (x : Labels). distanceOf x v) (closed-labels s bag _ refl) ∙ e
+
 module _ {g : Graph} {source P : ℕ} where
   -- an effective close
   closed-after : (s : State) → 1 ≤ P → Sound g source P s → allIdle (s .workers) ≡ true
@@ -112,12 +136,14 @@ module _ {g : Graph} {source P : ℕ} where
       let sound : Sound g source P over = record { labels-sound = h .labels-sound; crew-sound = h .crew-sound } in
       record {
         sound = rw same sound;
+        stays = closed-stays s bag;
         opens = λ other. absurd (other (ap (λ (t : State). t .layer) same));
         ended = λ f. rw same (close-certified h idle e);
         cheaper = less;
       }
   closed-after s p h idle less false e = record {
     sound = close-sound p h idle e;
+    stays = closed-stays s (unitedOutputs (s .workers));
     opens = λ other. close-opens p h idle e;
     ended = λ f. absurd (true≢false (sym f ∙ closed-filled s (unitedOutputs (s .workers)) e));
     cheaper = less;
@@ -129,9 +155,10 @@ pub record Good (g : Graph) (source P : ℕ) (r : Run) : Type 0 where
   pub paid : r .effective + cost P g (r .state) ≤ eventBound g P
   pub ended : r .state .finished ≡ true → Certified g source (r .state .labels)
 
--- a byte: the run stays good, and a layer that opens is opened
+-- a byte: the run stays good, what is set stays as it is set, and a layer that opens is opened
 pub record ByteLeaves (g : Graph) (source P : ℕ) (r q : Run) : Type 0 where
   pub good : Good g source P q
+  pub stays : Stays (r .state .labels) (q .state .labels)
   pub opens : (q .state .layer ≡ r .state .layer → ⊥) → LayerOpen g source P (q .state)
 
 -- a run that stays where it is, but for the bytes used
@@ -142,7 +169,11 @@ next-same {g} {source} {P} r q h same count =
       paid = omega (arith, h .paid, count, ap (cost P g) same);
       ended = λ f. rw same (h .ended (sym (ap (λ (s : State). s .finished) same) ∙ f));
     } in
-    record { good = good; opens = λ other. absurd (other (ap (λ (s : State). s .layer) same)) }
+    record {
+      good = good;
+      stays = λ v k e. ap (λ (s : State). distanceOf (s .labels) v) same ∙ e;
+      opens = λ other. absurd (other (ap (λ (s : State). s .layer) same));
+    }
 
 module _ {g : Graph} {source : ℕ} (ground : Ground g source) {P : ℕ} (some-worker : 1 ≤ P) where
   -- an effective event
@@ -164,7 +195,7 @@ module _ {g : Graph} {source : ℕ} (ground : Ground g source) {P : ℕ} (some-w
   tally-next r e h live fits (some t) k =
       let after = act-after (r .state) t e (h .sound) live fits k in
       let good : Good g source P (tally r (some t)) = record { sound = after .sound; paid = omega (arith, h .paid, after .cheaper); ended = after .ended } in
-      record { good = good; opens = after .opens }
+      record { good = good; stays = after .stays; opens = after .opens }
 
   -- a byte
   pub step-next : (r : Run) (byte : ℕ) → Good g source P r → within P (eventOf byte) ≡ true → (f : Bool) → r .state .finished ≡ f

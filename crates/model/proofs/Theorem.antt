@@ -1,7 +1,8 @@
 -- Demand 3: for every graph, source, P and schedule that document 01 accepts, finished or spent, one claim about the whole schedule.
-use mathlib.Core.Path.{_≡_, refl, sym, _∙_, ap, subst}
+use mathlib.Core.Path.{_≡_, refl, sym, ap, subst}
 use mathlib.Core.Bool.{Bool, true, false, true≢false}
 use mathlib.Core.List.{List, [], _∷_}
+use mathlib.Core.Option.{some}
 use Prim.Native.Nat.{ℕ, suc, _≤_, _<_}
 use native.Mathlib.Omega.{arith}
 use lib.ListN.{length, getD, take}
@@ -9,6 +10,7 @@ use Rattle.graph.specs.Graph.{Graph}
 use Rattle.schedule.specs.Check.{anyStray}
 use Rattle.schedule.proofs.Bytes.{stray-none}
 use Rattle.schedule.proofs.Schedules.{stray-take, stray-at}
+use Rattle.model.specs.Paths.{distanceOf}
 use Rattle.model.specs.State.{State, openingState}
 use Rattle.model.specs.Play.{Run, step, playFrom, openingRun, play, stateAt, rounds, eventBound}
 use Rattle.model.specs.Demand.{Accepted, LayerOpen, Demand}
@@ -16,7 +18,7 @@ use Rattle.model.proofs.Sound.{Ground}
 use Rattle.model.proofs.Cost.{finishCost, cost}
 use Rattle.model.proofs.Rounds.{rounds-count}
 use Rattle.model.proofs.Used.{play-more, told-all}
-use Rattle.model.proofs.Steps.{Good, step-next}
+use Rattle.model.proofs.Steps.{Good, ByteLeaves, step-next}
 use Rattle.model.proofs.Certificate.{certified-right}
 use Rattle.model.proofs.Fits.{sound-fits}
 use Rattle.model.proofs.Opening.{opening-sound, opening-opens}
@@ -64,15 +66,24 @@ module _ {g : Graph} {source P : ℕ} {schedule : List ℕ} (a : Accepted g sour
   good-run : Good g source P (play g source P schedule)
   good-run = run-good (accepted-ground a) (a .some-worker) schedule (a .formed)
 
+  -- what byte k leaves
+  next-at : (k : ℕ) → k < length schedule → ByteLeaves g source P (play g source P (take k schedule)) (play g source P (take (suc k) schedule))
+  next-at k below =
+      let fits = stray-at P k schedule (a .formed) below in
+      let next = step-next (accepted-ground a) (a .some-worker) (play g source P (take k schedule)) (getD schedule k 0) (good-at k) fits _ refl in
+      subst (ByteLeaves g source P (play g source P (take k schedule))) (sym (play-more g source P schedule k below)) next
+
+  -- a distance that is set stays as it is set
+  distance-stays : (k v d : ℕ) → k < length schedule → distanceOf (stateAt g source P schedule k .labels) v ≡ some d
+      → distanceOf (stateAt g source P schedule (suc k) .labels) v ≡ some d
+  unfolding stateAt
+  distance-stays k v d below = next-at k below .stays v d
+
   -- a close that raises d opens a layer
   layer-opens : (k : ℕ) → k < length schedule → (stateAt g source P schedule (suc k) .layer ≡ stateAt g source P schedule k .layer → ⊥)
       → LayerOpen g source P (stateAt g source P schedule (suc k))
   unfolding stateAt
-  layer-opens k below other =
-      let more = play-more g source P schedule k below in
-      let fits = stray-at P k schedule (a .formed) below in
-      let next = step-next (accepted-ground a) (a .some-worker) (play g source P (take k schedule)) (getD schedule k 0) (good-at k) fits _ refl in
-      subst (λ (r : Run). LayerOpen g source P (r .state)) (sym more) (next .opens (λ same. other (ap (λ (r : Run). r .state .layer) more ∙ same)))
+  layer-opens k below other = next-at k below .opens other
 
   -- a search that isn't finished has paid less than the bound
   not-finished : play g source P schedule .state .finished ≡ false → play g source P schedule .effective < eventBound g P
@@ -97,6 +108,7 @@ module _ {g : Graph} {source P : ℕ} {schedule : List ℕ} (a : Accepted g sour
     first-layer = rw (state-start g source P schedule) (opening-opens (accepted-ground a) P (a .some-worker));
     each-layer = layer-opens;
     final = λ k v d e. good-at k .sound .labels-sound .written v d e;
+    stays = distance-stays;
     bounded = omega (arith, good-run .paid);
     below = not-finished;
     enough-rounds = λ h. finishes _ refl h;

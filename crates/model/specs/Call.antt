@@ -37,29 +37,56 @@ pub record Answer : Type 0 where
 abbrev pub nodePlaces : ℕ → ℕ → ℕ
 nodePlaces n P = P * n + 1
 
+-- the lengths of the lists that the caller lends
+pub record Lengths : Type 0 where
+  pub offsets : ℕ
+  pub targets : ℕ
+  pub marks : ℕ
+  pub distances : ℕ
+  pub parents : ℕ
+  pub left : ℕ
+  pub right : ℕ
+  pub number : ℕ
+
+-- of these lists
+abbrev pub lengthsOf : Lent → Lengths
+lengthsOf lent = record {
+  offsets = length (lent .offsets);
+  targets = length (lent .targets);
+  marks = length (lent .marks);
+  distances = length (lent .distances);
+  parents = length (lent .parents);
+  left = length (lent .left);
+  right = length (lent .right);
+  number = length (lent .number);
+}
+
 -- "20: a lent list is shorter than its need": "offsets n + 1, targets and marks m, distances and parents n, three node lists P × n + 1 each"
-unfoldable pub lentShort : ℕ → ℕ → ℕ → Lent → Bool
-lentShort n m P lent =
-    rowsShort n m (length (lent .offsets)) (length (lent .targets)) (length (lent .marks))
-    || ltb (length (lent .distances)) n
-    || ltb (length (lent .parents)) n
-    || ltb (length (lent .left)) (nodePlaces n P)
-    || ltb (length (lent .right)) (nodePlaces n P)
-    || ltb (length (lent .number)) (nodePlaces n P)
+unfoldable pub lengthsShort : ℕ → ℕ → ℕ → Lengths → Bool
+lengthsShort n m P lengths =
+    rowsShort n m (lengths .offsets) (lengths .targets) (lengths .marks)
+    || ltb (lengths .distances) n
+    || ltb (lengths .parents) n
+    || ltb (lengths .left) (nodePlaces n P)
+    || ltb (lengths .right) (nodePlaces n P)
+    || ltb (lengths .number) (nodePlaces n P)
 
 -- the run of the file's graph
 unfoldable pub runOf : List ℕ → ℕ → ℕ → List ℕ → Run
 runOf file source P schedule = play (graphOf file) source P schedule
 
--- "Order: 1 (under 4), 2, 1 (length), 4, 3, 7, 8, 9, 20, 5, 6", all of it before the schedule is played
-unfoldable pub inputRefusals : List ℕ → ℕ → ℕ → List ℕ → Lent → List Refusal
-inputRefusals file source P schedule lent =
+-- "Order: 1 (under 4), 2, 1 (length), 4, 3, 7, 8, 9, 20": what is judged before a list is written
+unfoldable pub earlyRefusals : List ℕ → ℕ → ℕ → List ℕ → Lengths → List Refusal
+earlyRefusals file source P schedule lengths =
     headerRefusals file
     ++ scanRefusals file
     ++ (leb (vertexCount file) source gives badSource ∷ [])
     ++ scheduleRefusals schedule P
-    ++ (lentShort (vertexCount file) (edgeCount file) P lent gives shortList ∷ [])
-    ++ chainRefusals file
+    ++ (lengthsShort (vertexCount file) (edgeCount file) P lengths gives shortList ∷ [])
+
+-- ".. 5, 6", all of it before the schedule is played
+unfoldable pub inputRefusals : List ℕ → ℕ → ℕ → List ℕ → Lent → List Refusal
+inputRefusals file source P schedule lent = earlyRefusals file source P schedule (lengthsOf lent) ++ chainRefusals file
 
 -- "then .. 21"
 unfoldable pub searchRefusals : List ℕ → ℕ → ℕ → List ℕ → Lent → List Refusal

@@ -67,8 +67,11 @@ pub record Demand (g : Graph) (source P : ℕ) (schedule : List ℕ) : Type 0 wh
   -- .. and at each close that raises d"
   pub each-layer : (k : ℕ) → k < length schedule → (stateAt g source P schedule (suc k) .layer ≡ stateAt g source P schedule k .layer → ⊥)
       → LayerOpen g source P (stateAt g source P schedule (suc k))
-  -- (b) "Written distances are final at any moment of a run."
+  -- (b) "Written distances are final at any moment of a run." What is written after any number of bytes is the graph's distance ..
   pub final : (k v d : ℕ) → distanceOf (stateAt g source P schedule k .labels) v ≡ some d → Distance g source v d
+  -- .. and each byte leaves it as it is written
+  pub stays : (k v d : ℕ) → k < length schedule → distanceOf (stateAt g source P schedule k .labels) v ≡ some d
+      → distanceOf (stateAt g source P schedule (suc k) .labels) v ≡ some d
   -- (c) "Their count is at most P × (6 × n + m) + n" ..
   pub bounded : play g source P schedule .effective ≤ eventBound g P
   -- .. and below it while the search isn't finished

@@ -1,0 +1,81 @@
+// Every lent list one short, at its need and longer, for one graph.
+use crate::plans::Plan;
+use crate::requests::Lengths;
+use crate::requests::needs;
+use testkit::random::below;
+use testkit::random::leap;
+use testkit::words::extra;
+
+const VERTICES: u16 = 37;
+
+const EDGES: u16 = 101;
+
+const WORKERS: u16 = 8;
+
+// Enough full rounds to finish.
+const LENGTH: u32 = 2700;
+
+// Each list alone short among lists at their need, and among longer ones; all at their need; all
+// longer; then drawn ones.
+pub const COMBINATIONS: u16 = 118;
+
+// What a list has: 0 for one place short, 1 for its need, 2 for six places more than one short.
+fn choice(combination: u16, list: u16) -> u16 {
+    if combination < 8 {
+        return if combination == list { 0 } else { 1 };
+    }
+    if combination < 16 {
+        return if combination - 8 == list { 0 } else { 2 };
+    }
+    if combination < 18 {
+        return combination - 15;
+    }
+    let drawn = below(leap(combination as u64 * 8 + list as u64), 16);
+    if drawn == 0 { 0 } else { 1 + drawn % 2 }
+}
+
+// The length of a list with this need.
+fn length(need: usize, combination: u16, list: u16) -> usize {
+    let longer = std::num::wrapping_add_usize(need, extra(choice(combination, list)));
+    std::num::wrapping_sub_usize(longer, 1)
+}
+
+pub fn lent(combination: u16) -> Lengths {
+    let need = needs(VERTICES, EDGES, WORKERS, 0);
+    Lengths {
+        offsets: length(need.offsets, combination, 0),
+        targets: length(need.targets, combination, 1),
+        marks: length(need.marks, combination, 2),
+        distances: length(need.distances, combination, 3),
+        parents: length(need.parents, combination, 4),
+        left: length(need.left, combination, 5),
+        right: length(need.right, combination, 6),
+        number: length(need.number, combination, 7),
+    }
+}
+
+// Whether the list is one short.
+fn is_short(combination: u16, list: u16) -> bool {
+    choice(combination, list) == 0
+}
+
+// 20 where one of the lists is one short.
+pub fn expected(combination: u16) -> usize {
+    let rows = is_short(combination, 0) | is_short(combination, 1) | is_short(combination, 2);
+    let labels = is_short(combination, 3) | is_short(combination, 4);
+    let nodes = is_short(combination, 5) | is_short(combination, 6) | is_short(combination, 7);
+    if rows | labels | nodes { 20 } else { 0 }
+}
+
+// The graph and the schedule.
+pub fn plan() -> Plan {
+    Plan {
+        vertices: VERTICES,
+        edges: EDGES,
+        source: 0,
+        workers: WORKERS,
+        length: LENGTH,
+        mixture: 0,
+        seed: 20,
+    }
+}

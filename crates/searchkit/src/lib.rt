@@ -1,0 +1,18 @@
+// What the runs of the search share and that needs no search: requests, drawn schedules, a plain
+// queue search, comparisons of lists and labels, and the tables of cases.
+//
+// Every read and write of a list is guarded, so that no function here requires anything.
+pub mod base;
+pub mod bench;
+pub mod compare;
+pub mod counts;
+pub mod events;
+pub mod faults;
+pub mod labels;
+pub mod lengths;
+pub mod plans;
+pub mod queue;
+pub mod random_plans;
+pub mod refusals;
+pub mod requests;
+pub mod sizes;
