@@ -29,11 +29,40 @@ moved-pool pool moved = record {
   apart = λ x. rw (moved .nodes (only x), moved .left-length) (pool .apart x);
 }
 
+-- where nothing is done to the lists, bags that weigh the same are moved
+pub same-moved : {left right : List ℕ} {bags bags′ : List (List ℕ)} → ((f : ℕ → ℕ) → weighNodes f left right bags′ ≡ weighNodes f left right bags)
+    → Moved left right bags left right bags′
+same-moved same = record { nodes = λ f. rw (same f); kept-left = λ x h c. refl; kept-right = λ x c. refl; left-length = refl; right-length = refl }
+
 -- where each node stood in exactly one place, it still does: free chain and bags partition the nodes
 pub moved-whole : {left right left′ right′ : List ℕ} {bags bags′ : List (List ℕ)} (places : ℕ) → ((x : ℕ) → uses x left right bags ≡ inPool places x)
     → Moved left right bags left′ right′ bags′
     → (x : ℕ) → uses x left′ right′ bags′ ≡ inPool places x
 moved-whole places whole moved x = moved .nodes (only x) ∙ whole x
+
+-- an empty bag is left out of what was moved
+pub moved-less : {left right left′ right′ slots : List ℕ} {bags rest : List (List ℕ)} → Moved left right bags left′ right′ (slots ∷ emptySlots ∷ rest)
+    → Moved left right bags left′ right′ (slots ∷ rest)
+unfolding weighNodes sumOf
+moved-less {left′ = left′} {right′ = right′} moved = record {
+  nodes = λ f. omega (arith, moved .nodes f, empty-weight left′ right′ f);
+  kept-left = moved .kept-left;
+  kept-right = moved .kept-right;
+  left-length = moved .left-length;
+  right-length = moved .right-length;
+}
+
+-- what is moved twice is moved
+pub moved-again : {left right left′ right′ left″ right″ : List ℕ} {bags bags′ bags″ : List (List ℕ)} → Moved left right bags left′ right′ bags′
+    → Moved left′ right′ bags′ left″ right″ bags″
+    → Moved left right bags left″ right″ bags″
+moved-again first second = record {
+  nodes = λ f. second .nodes f ∙ first .nodes f;
+  kept-left = λ x h c. second .kept-left x h (first .nodes (only x) ∙ c) ∙ first .kept-left x h c;
+  kept-right = λ x c. second .kept-right x (first .nodes (only x) ∙ c) ∙ first .kept-right x c;
+  left-length = second .left-length ∙ first .left-length;
+  right-length = second .right-length ∙ first .right-length;
+}
 
 -- a bag that is empty may stand beside the one that is split
 pub split-two : {left right left′ right′ slots : List ℕ} {bags′ : List (List ℕ)} (b : List ℕ) → isEmpty (nodesOf left right b) ≡ true

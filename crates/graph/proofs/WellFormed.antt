@@ -14,7 +14,8 @@ use Rattle.numbers.specs.Refusals.{_gives_, first}
 use Rattle.numbers.proofs.First.{Positive, first-passed, first-skip, first-split, first-join}
 use Rattle.lists.specs.Lists.{chainFrom, numbersFrom, repeats, lacks, reaches}
 use Rattle.lists.proofs.Or.{or-none}
-use Rattle.lists.proofs.Tests.{reaches-append, range-elem, InRange, in-range-nil, in-range-cons, in-range-append, full-length, map-flatten, map-reaches, reaches-map, row-short, map-at, length-range, getD-range}
+use Rattle.lists.proofs.Tests.{reaches-append, range-elem, InRange, in-range-nil, in-range-cons, in-range-append, full-length, map-flatten, map-reaches, reaches-map, row-short, length-range, getD-range}
+use Rattle.lists.proofs.Replaced.{map-at}
 use Rattle.lists.proofs.Chains.{chain-longer}
 use Rattle.graph.specs.Graph.{offsetsOf, targetsOf}
 use Rattle.graph.specs.File.{vertexCount, edgeCount, fileLength, headIndex, target, next, heads, recordTargets, recordNexts, chain, chains, reached, graphOf}
@@ -160,7 +161,7 @@ chain-short file b p u = omega (arith, row-short (chains file) u, reached-length
 pub chain-at : (file : List ℕ) (u : ℕ) → u < vertexCount file → getD (chains file) u [] ≡ chain file (suc (edgeCount file)) (headIndex file u)
 unfolding chains
 chain-at file u h =
-    map-at (λ (v : ℕ). chain file (suc (edgeCount file)) (headIndex file v)) (numbersFrom 0 (vertexCount file)) u (rw (length-range 0 (vertexCount file)) h)
+    map-at (λ (v : ℕ). chain file (suc (edgeCount file)) (headIndex file v)) (numbersFrom 0 (vertexCount file)) u 0 [] (rw (length-range 0 (vertexCount file)) h)
     ∙ ap (λ (v : ℕ). chain file (suc (edgeCount file)) (headIndex file v)) (getD-range 0 (vertexCount file) u 0 h ∙ omega arith)
 
 pub chain-ends : (file : List ℕ) → Bounded file → Partitioned file → (u : ℕ) → u < vertexCount file

@@ -1,12 +1,12 @@
 -- Facts about `overlay`: a list that is written from the front, place by place, over a longer one.
 use mathlib.Core.Path.{_≡_, refl, sym, ap, _∙_}
-use mathlib.Core.List.{List, [], _∷_, _++_}
+use mathlib.Core.List.{List, [], _∷_, _++_, append-nil}
 use Prim.Native.Nat.{ℕ, zero, suc, _+_, _-_, _≤_, _<_}
 use native.Mathlib.Nat.{le-refl, le-of-suc-le-suc, not-suc-le-zero}
 use native.Mathlib.Numerals.{add-one}
 use native.Mathlib.Omega.{arith}
-use lib.ListN.{length, getD, set, take, drop, replicate, length-replicate, getD-replicate, List·getD-append}
-use lib.Seq.{take-all, drop-append-add, drop-drop}
+use lib.ListN.{length, getD, set, take, drop, replicate, length-append, length-replicate, getD-replicate, List·getD-append}
+use lib.Seq.{take-all, length-take-le, drop-append-add, drop-at, drop-drop, drop-length}
 use Rattle.lists.specs.Lists.{overlay}
 
 -- no place of a list lies past its end
@@ -14,7 +14,8 @@ not-in-nil : {A : Type 0} {i : ℕ} → i < 0 → A
 not-in-nil h = absurd (not-suc-le-zero h)
 
 -- a list whose first i places are written, with one store more
-pub overlay-suc : (new old : List ℕ) (i : ℕ) → i < length new → i < length old → set (overlay (take i new) old) i (getD new i 0) ≡ overlay (take (suc i) new) old
+pub overlay-suc : (new old : List ℕ) (i : ℕ) → i < length new → i < length old
+    → set (overlay (take i new) old) i (getD new i 0) ≡ overlay (take (suc i) new) old
 unfolding overlay
 overlay-suc [] old i h k = not-in-nil h
 overlay-suc (x ∷ new) [] i h k = not-in-nil k
@@ -59,3 +60,37 @@ unfolding overlay
 overlay-zeros m old i h =
     let zeros : List ℕ = replicate m 0 in
     List·getD-append zeros (drop (length zeros) old) 0 i (rw length-replicate h) ∙ getD-replicate m i 0 0 h
+
+-- a list has the places that were written over it
+pub overlay-long : (new old : List ℕ) → length new ≤ length (overlay new old)
+unfolding overlay
+overlay-long new old = omega (arith, length-append new (drop (length new) old))
+
+-- a list that is written whole
+pub overlay-whole : (l : List ℕ) (x : ℕ) → overlay (replicate (length l) x) l ≡ replicate (length l) x
+unfolding overlay
+overlay-whole l x =
+    let filled : List ℕ = replicate (length l) x in
+    rw (length-replicate (length l) x, drop-length l) (append-nil filled)
+
+-- Parts of lists, written on their own.
+
+-- the first places of a list that has them
+pub part-length : (n : ℕ) (l : List ℕ) → n ≤ length l → n ≡ length (take n l)
+part-length n l h = sym (length-take-le n l h)
+
+-- those places written, and the rest as it was
+pub part-laid : (n : ℕ) (old : List ℕ) {new written : List ℕ} → n ≤ length old → length written ≡ length (take n old) → written ≡ new
+    → written ++ drop n old ≡ overlay new old
+unfolding overlay
+part-laid n old {new} {written} h k e =
+    ap (λ (i : ℕ). written ++ drop i old) (part-length n old h ∙ sym k) ∙ ap (λ (l : List ℕ). overlay l old) e
+
+-- zeros laid over them afterwards
+pub part-cleared : (n : ℕ) (old written : List ℕ) {after : List ℕ} → n ≤ length old → length written ≡ length (take n old)
+    → after ≡ overlay (replicate n 0) (written ++ drop n old) → after ≡ overlay (replicate n 0) old
+part-cleared n old written h k e =
+    let zeros : List ℕ = replicate n 0 in
+    let size : length zeros ≡ n = length-replicate n 0 in
+    let rest : drop n (written ++ drop n old) ≡ drop n old = drop-at written (drop n old) n (k ∙ sym (part-length n old h)) in
+    e ∙ overlay-kept zeros old (written ++ drop n old) (rw size rest)

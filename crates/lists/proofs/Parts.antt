@@ -1,11 +1,11 @@
--- Facts about what is left of a list after its first places, where the toolchain's libraries have them the other way round; and two about what is
--- read at a place.
-use mathlib.Core.Path.{_≡_, refl}
+-- Facts about what is left of a list after its first places, where the toolchain's libraries have them the other way round; and what is read
+-- at a place.
+use mathlib.Core.Path.{_≡_, refl, ap}
 use mathlib.Core.List.{List, [], _∷_, nil≢cons, cons≢nil, head-eq-of-cons-eq, tail-eq-of-cons-eq}
 use mathlib.Core.Option.{Option, none, some, Option·none-ne-some}
 use Prim.Native.Nat.{ℕ, zero, suc, _≤_, _<_, zero-le, suc-le-suc}
 use native.Mathlib.Omega.{arith}
-use lib.ListN.{length, getD, drop, replicate}
+use lib.ListN.{length, getD, take, drop, replicate}
 
 -- what stands at place i: the rest of the list from there on begins with x
 pub record Next (list : List ℕ) (i x : ℕ) (rest : List ℕ) : Type 0 where
@@ -38,3 +38,15 @@ pub getD-repeated : {A : Type 0} (n i : ℕ) (a : A) → getD (replicate n a) i 
 getD-repeated zero i a = refl
 getD-repeated (suc n) zero a = refl
 getD-repeated (suc n) (suc i) a = getD-repeated n i a
+
+-- the first m of n places with the same value
+pub take-repeated : {A : Type 0} (m n : ℕ) (a : A) → m ≤ n → take m (replicate n a) ≡ replicate m a
+take-repeated zero n a h = refl
+take-repeated (suc m) zero a h = absurd (omega arith)
+take-repeated (suc m) (suc n) a h = ap (λ l. a ∷ l) (take-repeated m n a (omega arith))
+
+-- an element that is there is read whatever stands past the end
+pub getD-any : {A : Type 0} (l : List A) (i : ℕ) (d e : A) → i < length l → getD l i d ≡ getD l i e
+getD-any [] i d e h = absurd (omega arith)
+getD-any (x ∷ l) zero d e h = refl
+getD-any (x ∷ l) (suc i) d e h = getD-any l i d e (omega arith)

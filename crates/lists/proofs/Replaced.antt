@@ -1,10 +1,10 @@
 -- Lists with elements replaced, and functions at each element.
 use Prim.Native.Nat.{ℕ, zero, suc, _<_}
 use native.Mathlib.Omega.{arith}
-use mathlib.Core.Path.{_≡_, refl, sym, _∙_}
+use mathlib.Core.Path.{_≡_, refl, sym, ap₂, _∙_}
 use mathlib.Core.Bool.{Bool, true, false}
 use mathlib.Core.List.{List, [], _∷_, map}
-use lib.ListN.{length, getD, drop, set, length-set}
+use lib.ListN.{length, getD, drop, set, replicate, length-set}
 use lib.Dec.{eqb}
 use lib.Seq.{set-set, set-comm, getD-set-same, getD-set-other}
 use borrow.Author.Tests.{eqb-true, eqb-false}
@@ -14,6 +14,26 @@ pub map-set : {A B : Type 0} (f : A → B) (l : List A) (i : ℕ) (y : A) → ma
 map-set f [] i y = refl
 map-set f (x ∷ l) zero y = refl
 map-set f (x ∷ l) (suc i) y = rw (map-set f l i y)
+
+-- a function at each element, at one of them
+pub map-at : {A B : Type 0} (f : A → B) (l : List A) (i : ℕ) (d : A) (e : B) → i < length l → getD (map f l) i e ≡ f (getD l i d)
+map-at f [] i d e h = absurd (omega arith)
+map-at f (x ∷ l) zero d e h = refl
+map-at f (x ∷ l) (suc i) d e h = map-at f l i d e (omega arith)
+
+-- a function over places with the same value
+pub map-repeated : {A B : Type 0} (f : A → B) (n : ℕ) (a : A) → map f (replicate n a) ≡ replicate n (f a)
+map-repeated f zero a = refl
+map-repeated f (suc n) a = rw (map-repeated f n a)
+
+-- a function that is the same at each element
+pub map-replicate : {A B : Type 0} (f : A → B) (d : A) (y : B) (l : List A) (n : ℕ) → length l ≡ n → ((i : ℕ) → i < n → f (getD l i d) ≡ y)
+    → map f l ≡ replicate n y
+map-replicate f d y [] zero long each = refl
+map-replicate f d y [] (suc n) long each = absurd (omega arith)
+map-replicate f d y (x ∷ l) zero long each = absurd (omega arith)
+map-replicate {B = B} f d y (x ∷ l) (suc n) long each =
+    ap₂ (λ (z : B) (r : List B). z ∷ r) (each 0 (omega arith)) (map-replicate f d y l n (omega arith) (λ i h. each (suc i) (omega arith)))
 
 -- two functions that agree on the list
 pub map-agree : {A B : Type 0} (f g : A → B) (d : A) (l : List A) → ((i : ℕ) → i < length l → f (getD l i d) ≡ g (getD l i d)) → map f l ≡ map g l
@@ -34,13 +54,18 @@ drop-set [] i y h = absurd (omega arith)
 drop-set (x ∷ l) zero y h = refl
 drop-set (x ∷ l) (suc i) y h = drop-set l i y (omega arith)
 
--- what holds of each element and of a new one holds of each element where the new one replaces one of them
+-- what holds of the elements at some places, and of a new one, holds there where the new one replaces one of them
+pub set-each : {A : Type 0} (Q : A → Type 0) (There : ℕ → Type 0) (l : List A) (i : ℕ) (y d : A) → Q y → ((j : ℕ) → There j → Q (getD l j d))
+    → (j : ℕ) → There j → Q (getD (set l i y) j d)
+set-each Q There [] i y d new old j h = old j h
+set-each Q There (x ∷ l) zero y d new old zero h = new
+set-each Q There (x ∷ l) zero y d new old (suc j) h = old (suc j) h
+set-each Q There (x ∷ l) (suc i) y d new old zero h = old zero h
+set-each Q There (x ∷ l) (suc i) y d new old (suc j) h = set-each Q (λ k. There (suc k)) l i y d new (λ k t. old (suc k) t) j h
+
+-- the same of every place
 pub each-set : {A : Type 0} (Q : A → Type 0) (l : List A) (i : ℕ) (y d : A) → Q y → ((j : ℕ) → Q (getD l j d)) → (j : ℕ) → Q (getD (set l i y) j d)
-each-set Q [] i y d new old j = old j
-each-set Q (x ∷ l) zero y d new old zero = new
-each-set Q (x ∷ l) zero y d new old (suc j) = old (suc j)
-each-set Q (x ∷ l) (suc i) y d new old zero = old zero
-each-set Q (x ∷ l) (suc i) y d new old (suc j) = each-set Q l i y d new (λ k. old (suc k)) j
+each-set Q l i y d new old j = set-each Q (λ k. Unit {0}) l i y d new (λ k there. old k) j tt
 
 -- a list with one element replaced holds at a place the new element, or what it held before
 pub set-cases : {A R : Type 0} (l : List A) (i j : ℕ) (y d x : A) → i < length l → getD (set l i y) j d ≡ x

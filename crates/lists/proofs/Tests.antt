@@ -127,7 +127,8 @@ unfolding without elem
 without-length x [] e = absurd (true≢false (sym e))
 without-length x (y ∷ l) e = go (eqb x y) e (without-length x l)
   where
-    go : (b : Bool) → (b || elem x l) ≡ true → (elem x l ≡ true → suc (length (without x l)) ≡ length l) → suc (length (cond b l (y ∷ without x l))) ≡ suc (length l)
+    go : (b : Bool) → (b || elem x l) ≡ true → (elem x l ≡ true → suc (length (without x l)) ≡ length l)
+        → suc (length (cond b l (y ∷ without x l))) ≡ suc (length l)
     go true f rest = refl
     go false f rest = ap suc (rest f)
 
@@ -350,9 +351,3 @@ unfolding flatten
 row-short [] u = omega arith
 row-short (row ∷ rows) zero = let n = length-append row (flatten rows) in omega arith
 row-short (row ∷ rows) (suc u) = let n = length-append row (flatten rows) in omega (arith, row-short rows u)
-
--- a function's rows, by place
-pub map-at : (f : ℕ → List ℕ) (l : List ℕ) (i : ℕ) → i < length l → getD (map f l) i [] ≡ f (getD l i 0)
-map-at f [] i h = absurd (not-suc-le-zero h)
-map-at f (x ∷ l) zero h = refl
-map-at f (x ∷ l) (suc i) h = map-at f l i (le-of-suc-le-suc h)

@@ -57,7 +57,7 @@ module _ (file : List ℕ) (source P : ℕ) (schedule : List ℕ) (lent : Lent) 
   input-numbers = omega arith
 
   -- so are those of the tests before the chains
-  early-positive : Positive (earlyRefusals file source P schedule (lengthsOf lent))
+  pub early-positive : Positive (earlyRefusals file source P schedule (lengthsOf lent))
   unfolding earlyRefusals headerRefusals scanRefusals scheduleRefusals
   early-positive = omega arith
 

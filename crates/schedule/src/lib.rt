@@ -1,5 +1,5 @@
 // A schedule (document 01: event sheet) is a list of event bytes. One `decode` says what event a
-// byte is: the form check goes through it, and so will the search.
+// byte is: the form check goes through it, and so does the search.
 ghost use mathlib.Core.Path.{_≡_};
 ghost use Rattle.schedule.specs.Events.{eventOf, formOf, within};
 ghost use Rattle.schedule.specs.Check.{anyStray, scheduleNumber};

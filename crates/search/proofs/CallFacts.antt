@@ -4,13 +4,14 @@ use mathlib.Core.Bool.{Bool, true, false, cond, not, _&&_, and-eq-true-iff}
 use mathlib.Core.List.{List, [], _∷_, _++_, append-assoc}
 use Prim.Native.Nat.{ℕ, _+_, _≤_}
 use native.Mathlib.Omega.{arith}
-use lib.ListN.{length, take, drop, replicate, length-append}
+use lib.ListN.{length, take, drop, replicate}
 use lib.Seq.{take-at}
 use borrow.Author.Tests.{not-true, ne-eqb}
 use Rattle.numbers.specs.Numbers.{success, repeated, unreached, unfinished}
 use Rattle.numbers.specs.Refusals.{Refusal, _gives_, first}
 use Rattle.numbers.proofs.First.{Positive, first-append, first-append-stop}
 use Rattle.lists.specs.Lists.{overlay, elem}
+use Rattle.lists.proofs.Overlay.{overlay-long}
 use Rattle.graph.specs.Graph.{offsetsOf, targetsOf, rowsOf}
 use Rattle.graph.specs.File.{edgeCount, graphOf}
 use Rattle.graph.specs.Read.{headerRefusals, scanRefusals, chainRefusals, writesRows}
@@ -20,12 +21,11 @@ use Rattle.graph.proofs.Bridge.{graph-again, length-offsets}
 use Rattle.schedule.specs.Check.{scheduleRefusals}
 use Rattle.schedule.proofs.Schedules.{schedule-passed}
 use Rattle.model.specs.Play.{play}
-use Rattle.model.specs.Call.{Lent, Outcome, nodePlaces, lentShort, runOf, inputRefusals, searchRefusals, searchNumber, plays, outcomeOfSearch}
-use Rattle.model.proofs.Calls.{call-parts, call-sizes, call-accepted, call-number, call-played, call-refused}
+use Rattle.model.specs.Call.{Lent, Lengths, lengthsOf, earlyRefusals, Outcome, nodePlaces, runOf, inputRefusals, searchRefusals, searchNumber, plays, outcomeOfSearch}
+use Rattle.model.proofs.Calls.{early-positive, call-parts, call-sizes, call-accepted, call-number, call-played, call-refused}
 use Rattle.search.specs.declared.Answer.{Answer}
-use Rattle.search.specs.declared.Lengths.{Lengths}
-use Rattle.search.specs.Runs.{Playable, PlayedOut}
-use Rattle.search.specs.Input.{lengthsOf, lengthsShort, refusal, earlyRefusals, earlyAnswer}
+use Rattle.search.specs.Runs.{refusal, Playable, PlayedOut}
+use Rattle.search.specs.Input.{earlyAnswer}
 use Rattle.search.specs.Promise.{lentLists, searchExit}
 use Rattle.search.proofs.JudgeFacts.{Passed, early-number, early-passed}
 
@@ -66,11 +66,6 @@ unfolding plays elem
 run-plays true = refl
 run-plays false = refl
 
--- a list has the places that were written over it
-overlay-long : (new old : List ℕ) → length new ≤ length (overlay new old)
-unfolding overlay
-overlay-long new old = omega (arith, length-append new (drop (length new) old))
-
 -- The ways out.
 module _ (file : List ℕ) (source P : ℕ) (schedule : List ℕ) (lent : Lent) where
   -- the tests before the chains are walked
@@ -87,18 +82,13 @@ module _ (file : List ℕ) (source P : ℕ) (schedule : List ℕ) (lent : Lent) 
 
   -- the tests before the chains are walked come first, then those of the chains
   input-parts : inputRefusals file source P schedule lent ≡ early ++ chainRefusals file
-  unfolding inputRefusals earlyRefusals lentShort lengthsShort
+  unfolding inputRefusals
   input-parts = refl
 
   -- then that of the run
   number-parts : number ≡ first ((early ++ chainRefusals file) ++ last)
   unfolding searchNumber searchRefusals
   number-parts = ap (λ (l : List Refusal). first (l ++ last)) input-parts
-
-  -- the numbers before the chains' are positive
-  early-positive : Positive early
-  unfolding earlyRefusals headerRefusals scanRefusals scheduleRefusals
-  early-positive = omega arith
 
   -- the outcome of a refusal, with these marks
   abbrev refusedExit : ℕ → List ℕ → Outcome
@@ -136,7 +126,7 @@ module _ (file : List ℕ) (source P : ℕ) (schedule : List ℕ) (lent : Lent) 
       number-later =
           number-parts
           ∙ ap first (append-assoc early (chainRefusals file) last)
-          ∙ first-append early (chainRefusals file ++ last) early-positive (told .none)
+          ∙ first-append early (chainRefusals file ++ last) (early-positive file source P schedule lent) (told .none)
 
       module _ {k : ℕ} {offsets′ targets′ marks′ : List ℕ}
           (walked : Unchained file (head .edges) k (lent .offsets) (lent .targets) (lent .marks) offsets′ targets′ marks′) where
@@ -163,7 +153,7 @@ module _ (file : List ℕ) (source P : ℕ) (schedule : List ℕ) (lent : Lent) 
         module _ (whole : k ≡ 0) where
           -- every test on the input is passed
           input-passed : first (inputRefusals file source P schedule lent) ≡ 0
-          input-passed = ap first input-parts ∙ first-append early (chainRefusals file) early-positive (told .none) ∙ sym (walked .judged) ∙ whole
+          input-passed = ap first input-parts ∙ first-append early (chainRefusals file) (early-positive file source P schedule lent) (told .none) ∙ sym (walked .judged) ∙ whole
 
           -- n and m of the graph
           sizes : (length (graphOf file) ≡ head .vertices) × (length (targetsOf (graphOf file)) ≡ head .edges)
@@ -242,7 +232,7 @@ module _ (file : List ℕ) (source P : ℕ) (schedule : List ℕ) (lent : Lent) 
               let answered = out′ .told .number ∙ sym decided in
               (λ i. record {
                 answer = record { number = answered i; used = out′ .told .used i; effective = out′ .told .effective i; layer = out′ .told .layer i };
-                lent = lentLists (starts-written i) (ends-written i) (marks-clear i) (out′ .labelled i) (out′ .named i) (out′ .left-clear i) (out′ .right-clear i)
-                    (out′ .number-clear i);
+                lent = lentLists (starts-written i) (ends-written i) (marks-clear i) (out′ .labelled i) (out′ .named i) (out′ .left-clear i)
+                    (out′ .right-clear i) (out′ .number-clear i);
               })
               ∙ sym (call-played file source P schedule lent (ap plays decided ∙ run-plays (runOf file source P schedule .state .finished)))

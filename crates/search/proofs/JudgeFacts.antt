@@ -5,7 +5,7 @@ use mathlib.Core.List.{List, [], _∷_, _++_}
 use Prim.Native.Nat.{ℕ, _+_, _≤_, _<_}
 use native.Mathlib.Omega.{arith}
 use lib.Dec.{leb, ltb}
-use borrow.Author.Tests.{lt-ltb, le-ltb, ltb-false, le-leb, lt-leb}
+use borrow.Author.Tests.{ltb-false, le-leb, lt-leb}
 use Rattle.numbers.specs.Numbers.{badSource, shortList}
 use Rattle.numbers.specs.Refusals.{Refusal, _gives_, first}
 use Rattle.numbers.proofs.First.{first-stop, first-skip, first-passed, first-append, first-append-stop, first-split}
@@ -18,45 +18,17 @@ use Rattle.graph.proofs.WellFormed.{header-sized, positive-header, positive-sca
 use Rattle.graph.proofs.ReadFacts.{header-number, header-whole, header-fits, long-enough, answer-number, answer-refused, answer-whole}
 use Rattle.schedule.specs.Check.{scheduleRefusals, scheduleNumber}
 use Rattle.schedule.proofs.Schedules.{positive-schedule}
-use Rattle.model.specs.Call.{nodePlaces}
-use Rattle.search.specs.declared.Lengths.{Lengths}
-use Rattle.search.specs.Input.{lengthsShort, earlyRefusals, earlyAnswer}
+use Rattle.model.specs.Call.{Lengths, lengthsShort, earlyRefusals, nodePlaces}
+use Rattle.search.specs.Input.{earlyAnswer}
 
 -- Whether a list is short.
-module _ (n m P : ℕ) (lengths : Lengths) where
-  -- one of the reader's
-  pub short-rows : rowsShort n m (lengths .offsets) (lengths .targets) (lengths .marks) ≡ true → true ≡ lengthsShort n m P lengths
-  unfolding lengthsShort
-  short-rows h = rw h
 
-  module _ (rows : rowsShort n m (lengths .offsets) (lengths .targets) (lengths .marks) ≡ false) where
-    -- the distances
-    pub short-distances : lengths .distances < n → true ≡ lengthsShort n m P lengths
-    unfolding lengthsShort
-    short-distances h = rw (rows, lt-ltb (lengths .distances) n h)
-
-    module _ (far : n ≤ lengths .distances) where
-      -- the parents
-      pub short-parents : ltb (lengths .parents) n ≡ true → true ≡ lengthsShort n m P lengths
-      unfolding lengthsShort
-      short-parents h = rw (rows, le-ltb (lengths .distances) n far, h)
-
-      module _ (near : ltb (lengths .parents) n ≡ false) where
-        -- the nodes' left children
-        pub short-left : lengths .left < nodePlaces n P → true ≡ lengthsShort n m P lengths
-        unfolding lengthsShort
-        short-left h = rw (rows, le-ltb (lengths .distances) n far, near, lt-ltb (lengths .left) (nodePlaces n P) h)
-
-        module _ (left : nodePlaces n P ≤ lengths .left) where
-          -- the right ones
-          pub short-right : ltb (lengths .right) (nodePlaces n P) ≡ true → true ≡ lengthsShort n m P lengths
-          unfolding lengthsShort
-          short-right h = rw (rows, le-ltb (lengths .distances) n far, near, le-ltb (lengths .left) (nodePlaces n P) left, h)
-
-          -- or the last test decides, that of the nodes' numbers
-          pub short-number : ltb (lengths .right) (nodePlaces n P) ≡ false → ltb (lengths .number) (nodePlaces n P) ≡ lengthsShort n m P lengths
-          unfolding lengthsShort
-          short-number h = rw (rows, le-ltb (lengths .distances) n far, near, le-ltb (lengths .left) (nodePlaces n P) left, h)
+-- the first of the six tests that holds decides
+pub short-by : (n m P : ℕ) (lengths : Lengths) {a b c d e f : Bool} → rowsShort n m (lengths .offsets) (lengths .targets) (lengths .marks) ≡ a
+    → ltb (lengths .distances) n ≡ b → ltb (lengths .parents) n ≡ c → ltb (lengths .left) (nodePlaces n P) ≡ d
+    → ltb (lengths .right) (nodePlaces n P) ≡ e → ltb (lengths .number) (nodePlaces n P) ≡ f → (a || b || c || d || e || f) ≡ lengthsShort n m P lengths
+unfolding lengthsShort
+short-by n m P lengths rows far near left right last = rw (rows, far, near, left, right, last)
 
 -- a list for each need
 pub record Long (n m P : ℕ) (lengths : Lengths) : Type 0 where
@@ -147,7 +119,8 @@ module _ (file : List ℕ) (source P : ℕ) (schedule : List ℕ) (lengths : Len
   -- a refusal
   refuses : {k : ℕ} {r : ReadAnswer} → number ≡ k → (k ≡ 0 → ⊥) → r ≡ refusalAnswer k → r ≡ earlyAnswer file source P schedule lengths
   unfolding earlyAnswer
-  refuses {k} e h a = a ∙ sym (answer-refused k (vertexCount file) (edgeCount file) h) ∙ ap (λ (x : ℕ). answerWith x (vertexCount file) (edgeCount file)) (sym e)
+  refuses {k} e h a =
+      a ∙ sym (answer-refused k (vertexCount file) (edgeCount file) h) ∙ ap (λ (x : ℕ). answerWith x (vertexCount file) (edgeCount file)) (sym e)
 
   -- past the header
   number-second : first (headerRefusals file) ≡ 0 → number ≡ first (scanRefusals file ++ second)

@@ -1,46 +1,24 @@
 -- A call that has the model's outcome keeps what a search promises: all of it follows from that one equation.
 use mathlib.Core.Path.{_≡_, refl, sym, ap, _∙_, subst}
 use mathlib.Core.Bool.{Bool, true, false, cond}
-use mathlib.Core.List.{List, [], _∷_, map}
-use mathlib.Core.Option.{Option, none, some}
-use Prim.Native.Nat.{ℕ, suc, _<_}
+use mathlib.Core.List.{List, map}
+use Prim.Native.Nat.{ℕ, _<_}
 use native.Mathlib.Omega.{arith}
-use lib.ListN.{length, getD, take, drop, length-map}
-use lib.Seq.{take-at, take-length}
-use borrow.Author.Tests.{ne-eqb}
+use lib.ListN.{length, take}
+use lib.Seq.{take-length}
 use Rattle.numbers.specs.Numbers.{unset, success, unfinished}
-use Rattle.lists.specs.Lists.{overlay, elem}
+use Rattle.lists.specs.Lists.{elem}
 use Rattle.graph.specs.File.{vertexCount, graphOf}
 use Rattle.graph.proofs.FileLists.{length-graph}
 use Rattle.model.specs.State.{State}
 use Rattle.model.specs.Play.{Run, play, stateAt}
 use Rattle.model.specs.Demand.{Demand, Fitting}
-use Rattle.model.specs.Call.{Lent, Outcome, wordOf, runOf, searchNumber, plays, outcomeOfSearch}
+use Rattle.model.specs.Call.{Lent, Outcome, runOf, searchNumber, plays, outcomeOfSearch}
 use Rattle.model.proofs.Calls.{call-passed, call-sizes, call-demand, call-number, call-rounds, call-played, call-refused, call-effective}
 use Rattle.search.specs.declared.Answer.{Answer}
-use Rattle.search.specs.Shown.{optionOf, labelsOf}
+use Rattle.workers.specs.Shown.{optionOf, labelsOf}
 use Rattle.search.specs.Promise.{searchExit, labelsIn, Kept}
-
--- Labels as words.
-
--- the word of a label stands for it
-word-back : (o : Option ℕ) → ((x : ℕ) → o ≡ some x → x < unset) → optionOf (wordOf o) ≡ o
-unfolding optionOf wordOf
-word-back none h = refl
-word-back (some x) h = let low = h x refl in rw (ne-eqb x unset (λ e. omega arith))
-
--- so do the words of a list of labels
-words-back : (l : List (Option ℕ)) → ((v x : ℕ) → getD l v none ≡ some x → x < unset) → map optionOf (map wordOf l) ≡ l
-words-back [] h = refl
-words-back (o ∷ l) h = rw (word-back o (h 0), words-back l (λ v. h (suc v)))
-
--- laid over the first n places of a list
-laid-back : (n : ℕ) (l : List (Option ℕ)) (old : List ℕ) → length l ≡ n → ((v x : ℕ) → getD l v none ≡ some x → x < unset)
-    → map optionOf (take n (overlay (map wordOf l) old)) ≡ l
-unfolding overlay
-laid-back n l old e h =
-    let words = map wordOf l in
-    ap (λ (k : List ℕ). map optionOf k) (take-at words (drop (length words) old) n (length-map l wordOf ∙ e)) ∙ words-back l h
+use Rattle.workers.proofs.WordFacts.{laid-back}
 
 -- Numbers of a run.
 
@@ -142,11 +120,13 @@ module _ (file : List ℕ) (source P : ℕ) (schedule : List ℕ) (lent : Lent) 
     partial z = unfinished-spent (run .state .finished) (decided (unfinished-plays z)) z
 
     -- all that is promised
-    pub kept : Kept file source P schedule lent r after
-    kept = record {
+    pub call-keeps : Kept file source P schedule lent r after
+    call-keeps = record {
       demand = demanded;
       spent = λ z. used (unfinished-plays z) ∙ demanded (unfinished-plays z) .used-spent (partial z);
+      not-finished = partial;
       finished = λ z. rw (used (success-plays z)) (demanded (success-plays z) .used-finished (whole z));
+      layer = λ p. ap (λ (o : Outcome). o .answer .layer) (e ∙ call-played file source P schedule lent (played p));
       counted = λ p. rw (effective p, used p) (demanded p .counted);
       bounded = rw (ap (λ (o : Outcome). o .answer .effective) e) (call-effective file source P schedule lent);
       below = λ z. rw (effective (unfinished-plays z)) (demanded (unfinished-plays z) .below (partial z));

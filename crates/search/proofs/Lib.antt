@@ -1,13 +1,11 @@
 -- Facts of the search.
-pub mod RowFacts
-pub mod MoveFacts
-pub mod CrewFacts
-pub mod ExchangeFacts
-pub mod IdleFacts
-pub mod GatherFacts
 pub mod OpenFacts
-pub mod RunFacts
-pub mod JudgeFacts
+pub mod PlayingFacts
+pub mod StartFacts
+pub mod WorkFacts
+pub mod PairFacts
+pub mod CloseFacts
 pub mod PlayFacts
+pub mod JudgeFacts
 pub mod CallFacts
 pub mod KeptFacts

@@ -1,53 +1,48 @@
 -- The opening: the labels that are written, the new pool of nodes, and the source in its bag.
-use mathlib.Core.Path.{_≡_, refl, sym, ap, ap₂, _∙_}
-use mathlib.Core.List.{List, [], _∷_, _++_, map, append-nil}
+use mathlib.Core.Path.{_≡_, ap, ap₂, _∙_}
+use mathlib.Core.List.{List, [], _∷_, _++_, map}
 use mathlib.Core.Option.{Option, none, some}
-use Prim.Native.Nat.{ℕ, zero, suc, _+_, _*_, _≤_, _<_}
+use Prim.Native.Nat.{ℕ, _*_, _≤_, _<_}
 use native.Mathlib.Nat.{mul-le-mul}
 use native.Mathlib.Omega.{arith}
-use lib.ListN.{length, getD, set, drop, replicate, length-replicate}
-use lib.Seq.{drop-length}
+use lib.ListN.{length, getD, set, replicate}
 use Rattle.numbers.specs.Numbers.{maxVertices, maxWorkers, unset}
 use Rattle.lists.specs.Lists.{overlay, numbersFrom, sumOf}
-use Rattle.lists.proofs.Replaced.{map-set}
-use Rattle.pennant.specs.Bag.{Bag, emptyBag, bagInsert}
+use Rattle.lists.proofs.Overlay.{overlay-whole}
+use Rattle.lists.proofs.Replaced.{map-set, map-repeated}
+use Rattle.pennant.specs.Bag.{bagInsert}
 use Rattle.pennant.specs.Held.{weigh, one}
 use Rattle.bag.specs.Nodes.{nodesOf, heldBy, freeNodes, emptySlots}
-use Rattle.bag.specs.Promises.{Pooled, Inserted, weighNodes, weighFree}
+use Rattle.bag.specs.Promises.{Pooled, Inserted, weighNodes}
 use Rattle.bag.proofs.Family.{moved-pool}
 use Rattle.bag.proofs.Free.{free-some, free-chained, free-count, pool-free, empty-weight}
 use Rattle.bag.proofs.HeldFacts.{held-none}
 use Rattle.model.specs.State.{openingLabels}
 use Rattle.model.specs.Call.{nodePlaces}
-use Rattle.search.specs.Shown.{optionOf, labelsOf}
-use Rattle.search.specs.Runs.{Sized, Opened}
-use Rattle.search.proofs.RowFacts.{word-set, word-unset}
+use Rattle.workers.specs.Shown.{optionOf, labelsOf}
+use Rattle.search.specs.Runs.{Sized, FirstLayer}
+use Rattle.workers.proofs.WordFacts.{word-set, word-unset}
 
 -- The labels.
 
--- a list that is written whole
-overlay-whole : (l : List ℕ) (x : ℕ) → overlay (replicate (length l) x) l ≡ replicate (length l) x
-unfolding overlay
-overlay-whole l x =
-    let filled : List ℕ = replicate (length l) x in
-    rw (length-replicate (length l) x, drop-length l) (append-nil filled)
-
 -- one of the two lists: unset but for the source
-pub labelled : (n source x : ℕ) (l : List ℕ) {filled stored : List ℕ} (count : ℕ) → length l ≡ n → count ≡ length l → filled ≡ overlay (replicate count unset) l → stored ≡ set filled source x
+pub labelled : (n source x : ℕ) (l : List ℕ) {filled stored : List ℕ} (count : ℕ) → length l ≡ n → count ≡ length l
+    → filled ≡ overlay (replicate count unset) l → stored ≡ set filled source x
     → stored ≡ set (replicate n unset) source x
 labelled n source x l count long all fill store =
-    store ∙ ap (λ (k : List ℕ). set k source x) (fill ∙ ap (λ (k : ℕ). overlay (replicate k unset) l) all ∙ overlay-whole l unset ∙ ap (λ (k : ℕ). replicate k unset) long)
+    store
+    ∙ ap (λ (k : List ℕ). set k source x)
+    (fill ∙ ap (λ (k : ℕ). overlay (replicate k unset) l) all ∙ overlay-whole l unset ∙ ap (λ (k : ℕ). replicate k unset) long)
 
 -- it stands for the model's
 label-shown : (n source x : ℕ) → x < unset → map optionOf (set (replicate n unset) source x) ≡ set (replicate n none) source (some x)
-label-shown n source x small = map-set optionOf (replicate n unset) source x ∙ ap₂ (λ (l : List (Option ℕ)) (o : Option ℕ). set l source o) (unsets n) (word-set x small)
-  where
-    unsets : (k : ℕ) → map optionOf (replicate k unset) ≡ replicate k none
-    unsets zero = refl
-    unsets (suc k) = ap₂ (λ (o : Option ℕ) (l : List (Option ℕ)). o ∷ l) word-unset (unsets k)
+label-shown n source x small =
+    map-set optionOf (replicate n unset) source x
+    ∙ ap₂ (λ (l : List (Option ℕ)) (o : Option ℕ). set l source o) (map-repeated optionOf n unset ∙ ap (replicate n) word-unset) (word-set x small)
 
 -- both lists
-labels-shown : (n source : ℕ) {distances parents : List ℕ} → source < unset → distances ≡ set (replicate n unset) source 0 → parents ≡ set (replicate n unset) source source
+labels-shown : (n source : ℕ) {distances parents : List ℕ} → source < unset → distances ≡ set (replicate n unset) source 0
+    → parents ≡ set (replicate n unset) source source
     → labelsOf distances parents ≡ openingLabels n source
 unfolding labelsOf openingLabels
 labels-shown n source small first second =
@@ -68,8 +63,9 @@ pub nodes-word : {P n m : ℕ} → P ≤ maxWorkers → n ≤ maxVertices → m 
 nodes-word {P} p q same = let product = ap (λ (k : ℕ). P * k) same in omega (arith, nodes-few p q)
 
 -- the new pool
-module _ {P source : ℕ} {distances parents left left′ right number none : List ℕ} (sized : Sized P distances parents left right number) (some-vertex : source < length distances)
-    (m : ℕ) (same : m ≡ length distances) (chained : left′ ≡ overlay (numbersFrom 1 (P * m) ++ 0 ∷ []) left) (long : length left′ ≡ length left) (empty : none ≡ emptySlots) where
+module _ {P source : ℕ} {distances parents left left′ right number none : List ℕ} (sized : Sized P distances parents left right number)
+    (some-vertex : source < length distances) (m : ℕ) (same : m ≡ length distances)
+    (chained : left′ ≡ overlay (numbersFrom 1 (P * m) ++ 0 ∷ []) left) (long : length left′ ≡ length left) (empty : none ≡ emptySlots) where
   -- how many nodes
   abbrev nodes : ℕ
   nodes = P * length distances
@@ -82,7 +78,9 @@ module _ {P source : ℕ} {distances parents left left′ right number none : Li
   -- with an empty bag the pool is well-formed
   pub new-pool : Pooled left′ right (none ∷ [])
   new-pool =
-      rw empty (pool-free left′ right nodes 1 all-free (omega (arith, sized .nodes, long)) (omega (arith, sized .nodes, long, nodes-few (sized .few-workers) (sized .few-vertices))) (omega (arith, sized .wide, long)))
+      let size = sized .nodes in
+      let few = nodes-few (sized .few-workers) (sized .few-vertices) in
+      rw empty (pool-free left′ right nodes 1 all-free (omega (arith, size, long)) (omega (arith, size, long, few)) (omega (arith, sized .wide, long)))
 
   -- and a node is free
   pub new-room : getD left′ 0 0 ≡ 0 → ⊥
@@ -91,11 +89,18 @@ module _ {P source : ℕ} {distances parents left left′ right number none : Li
   -- after the source is inserted
   pub new-opened : {distances′ parents′ left″ right″ number″ slots : List ℕ} → distances′ ≡ set (replicate (length distances) unset) source 0
       → parents′ ≡ set (replicate (length distances) unset) source source → Inserted left′ right number none source left″ right″ number″ slots
-      → Opened P source distances distances′ parents′ left″ right″ number″ slots
+      → FirstLayer P source distances distances′ parents′ left″ right″ number″ slots
   unfolding weighNodes sumOf
   new-opened first second inserted = record {
     labels = labels-shown (length distances) source (omega (arith, sized .few-vertices)) first second;
     held = inserted .held ∙ ap (bagInsert source) (ap (heldBy left′ right number) empty ∙ held-none left′ right number);
     pool = moved-pool new-pool (inserted .moved);
-    whole = inserted .moved .nodes one ∙ omega (arith, ap {B = ℕ} (λ (slots : List ℕ). weigh one (nodesOf left′ right slots)) empty, empty-weight left′ right one, free-count left′ nodes all-free);
+    whole =
+        inserted .moved .nodes one
+        ∙ omega (
+          arith,
+          ap {B = ℕ} (λ (slots : List ℕ). weigh one (nodesOf left′ right slots)) empty,
+          empty-weight left′ right one,
+          free-count left′ nodes all-free,
+        );
   }

@@ -1,37 +1,17 @@
 -- Playing a schedule on the first places of longer lists: what a run takes for granted of those parts, and the whole lists after it.
 use mathlib.Core.Path.{_≡_, sym, ap, _∙_}
 use mathlib.Core.List.{List, _++_}
-use Prim.Native.Nat.{ℕ, _+_, _≤_}
+use Prim.Native.Nat.{ℕ, _+_}
 use native.Mathlib.Omega.{arith}
-use lib.ListN.{length, take, drop, replicate, length-replicate}
-use lib.Seq.{length-take-le, drop-at}
+use lib.ListN.{length, take, drop, replicate}
+use lib.Seq.{length-take-le}
 use Rattle.lists.specs.Lists.{overlay}
-use Rattle.lists.proofs.Overlay.{overlay-kept}
+use Rattle.lists.proofs.Overlay.{part-laid, part-cleared}
 use Rattle.graph.specs.Graph.{rowsOf}
 use Rattle.model.specs.Play.{play}
 use Rattle.model.specs.Call.{nodePlaces}
 use Rattle.search.specs.declared.Answer.{Answer}
 use Rattle.search.specs.Runs.{Runnable, Ran, Playable, PlayedOut}
-
--- the first places of a list that has them
-pub part-length : (n : ℕ) (l : List ℕ) → n ≤ length l → n ≡ length (take n l)
-part-length n l h = sym (length-take-le n l h)
-
--- those places written, and the rest as it was
-part-laid : (n : ℕ) (old : List ℕ) {new written : List ℕ} → n ≤ length old → length written ≡ length (take n old) → written ≡ new
-    → written ++ drop n old ≡ overlay new old
-unfolding overlay
-part-laid n old {new} {written} h k e =
-    ap (λ (i : ℕ). written ++ drop i old) (part-length n old h ∙ sym k) ∙ ap (λ (l : List ℕ). overlay l old) e
-
--- zeros laid over them afterwards
-part-cleared : (n : ℕ) (old written : List ℕ) {after : List ℕ} → n ≤ length old → length written ≡ length (take n old)
-    → after ≡ overlay (replicate n 0) (written ++ drop n old) → after ≡ overlay (replicate n 0) old
-part-cleared n old written h k e =
-    let zeros : List ℕ = replicate n 0 in
-    let size : length zeros ≡ n = length-replicate n 0 in
-    let rest : drop n (written ++ drop n old) ≡ drop n old = drop-at written (drop n old) n (k ∙ sym (part-length n old h)) in
-    e ∙ overlay-kept zeros old (written ++ drop n old) (rw size rest)
 
 module _ {n m source P : ℕ} {schedule offsets targets distances parents left right number : List ℕ}
     (p : Playable n m source P schedule offsets targets distances parents left right number) where

@@ -1,7 +1,7 @@
 -- What a search promises, whatever it is called with: the model's outcome, and demand 3 of this very call, in terms of its answer and of the lists
 -- that it leaves.
 use mathlib.Core.Path.{_≡_}
-use mathlib.Core.Bool.{true}
+use mathlib.Core.Bool.{true, false}
 use mathlib.Core.List.{List}
 use mathlib.Core.Option.{some}
 use Prim.Native.Nat.{ℕ, _≤_, _<_}
@@ -12,12 +12,12 @@ use Rattle.lists.specs.Lists.{numbersFrom, sumOf}
 use Rattle.graph.specs.File.{vertexCount, graphOf}
 use Rattle.model.specs.Paths.{Labels, Distance, distanceOf, RightResult}
 use Rattle.model.specs.State.{openingLabels}
-use Rattle.model.specs.Play.{metAt, rounds, eventBound}
+use Rattle.model.specs.Play.{play, metAt, rounds, eventBound}
 use Rattle.model.specs.Serial.{Serial}
 use Rattle.model.specs.Demand.{Demand, Finisher}
 use Rattle.model.specs.Call as call
 use Rattle.search.specs.declared.Answer.{Answer}
-use Rattle.search.specs.Shown.{labelsOf}
+use Rattle.workers.specs.Shown.{labelsOf}
 
 -- the lists that the caller lends
 abbrev pub lentLists : List ℕ → List ℕ → List ℕ → List ℕ → List ℕ → List ℕ → List ℕ → List ℕ → call.Lent
@@ -43,11 +43,15 @@ labelsIn n distances parents = labelsOf (take n distances) (take n parents)
 module _ (file : List ℕ) (source P : ℕ) (schedule : List ℕ) (lent : call.Lent) where
   -- demand 3 of a call that answered so and left the lists so
   pub record Kept (r : Answer) (after : call.Lent) : Type 0 where
-    -- the model's theorem, field by field, for what this call was given: a call that plays is one of those it is about
+    -- the model's theorem, field by field: a call that answers 0 or 21 was accepted, so the theorem holds of what it was given
     pub demand : call.plays (r .number) ≡ true → Demand (graphOf file) source P schedule
-    -- 21 only "with .. all of them" played, 0 only with a finishing event, the last one used
+    -- "with 21 all of them": 21 only after the whole schedule is played and the search isn't finished
     pub spent : r .number ≡ unfinished → r .used ≡ length schedule
+    pub not-finished : r .number ≡ unfinished → play (graphOf file) source P schedule .state .finished ≡ false
+    -- 0 only with a finishing event, the last one used
     pub finished : r .number ≡ success → Finisher (graphOf file) source P schedule (r .used)
+    -- d is the run's
+    pub layer : call.plays (r .number) ≡ true → r .layer ≡ play (graphOf file) source P schedule .state .layer
     -- "The effective events reported are the number of used bytes whose condition, by that table, was met at their turn."
     pub counted : call.plays (r .number) ≡ true → r .effective ≡ sumOf (metAt (graphOf file) source P schedule) (numbersFrom 0 (r .used))
     -- "Their count is at most P × (6 × n + m) + n": with any number, and below it with 21

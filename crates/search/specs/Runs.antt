@@ -17,8 +17,8 @@ use Rattle.model.specs.Play.{Run, play}
 use Rattle.model.specs.Call.{wordOf, nodePlaces}
 use Rattle.model.specs.Demand.{Accepted}
 use Rattle.search.specs.declared.Answer.{Answer}
-use Rattle.search.specs.Shown.{labelsOf}
-use Rattle.search.specs.Steps.{Ground}
+use Rattle.workers.specs.Shown.{labelsOf}
+use Rattle.workers.specs.Steps.{Ground}
 
 -- lists for n vertices and P workers: all of them, and left of exactly its need
 pub record Sized (P : ℕ) (distances parents left right number : List ℕ) : Type 0 where
@@ -31,7 +31,7 @@ pub record Sized (P : ℕ) (distances parents left right number : List ℕ) : Ty
   pub numbered : length left ≤ length number
 
 -- `open`: the opening labels, and the source alone in the bag, all other nodes free
-pub record Opened (P source : ℕ) (distances distances′ parents′ left′ right′ number′ slots : List ℕ) : Type 0 where
+pub record FirstLayer (P source : ℕ) (distances distances′ parents′ left′ right′ number′ slots : List ℕ) : Type 0 where
   pub labels : labelsOf distances′ parents′ ≡ openingLabels (length distances) source
   pub held : heldBy left′ right′ number′ slots ≡ bagInsert source emptyBag
   pub pool : Pooled left′ right′ (slots ∷ [])
@@ -47,6 +47,10 @@ pub record Runnable (source P : ℕ) (schedule offsets targets distances parents
 -- an answer by its four numbers
 abbrev pub answerOf : ℕ → ℕ → ℕ → ℕ → Answer
 answerOf number used effective layer = record { number = number; used = used; effective = effective; layer = layer }
+
+-- "A refusal other than 21 gives zeros beside its number."
+abbrev pub refusal : ℕ → Answer
+refusal number = answerOf number 0 0 0
 
 -- the answer of the model's run
 pub record Told (r : Run) (answer : Answer) : Type 0 where

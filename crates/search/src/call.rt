@@ -5,10 +5,10 @@ ghost use Prim.Native.Nat.{_+_, _≤_};
 ghost use lib.ListN.{take};
 ghost use Rattle.numbers.specs.Numbers.{maxVertices, maxWorkers};
 ghost use Rattle.graph.specs.Graph.{rowsOf};
-ghost use Rattle.model.specs.Call.{outcomeOfSearch, nodePlaces};
+ghost use Rattle.model.specs.Call.{nodePlaces, lengthsShort, outcomeOfSearch};
 ghost use Rattle.model.specs.Play as model;
-ghost use Rattle.search.specs.Runs.{Playable, PlayedOut};
-ghost use Rattle.search.specs.Input.{lengthsShort, earlyAnswer, refusal};
+ghost use Rattle.search.specs.Runs.{refusal, Playable, PlayedOut};
+ghost use Rattle.search.specs.Input.{lengthsIn, earlyAnswer};
 ghost use Rattle.search.specs.Promise.{lentLists, searchExit, Kept};
 use crate::Answer;
 use crate::Lengths;
@@ -32,7 +32,7 @@ fn refuse(number: usize) -> Answer
 fn lengths_short(n: usize, m: usize, workers: usize, lengths: Lengths) -> bool
     requires { ⌜ n ≤ maxVertices ⌝ }
     requires { ⌜ workers ≤ maxWorkers ⌝ }
-    ensures { λ r. ⌜ r ≡ lengthsShort n m workers lengths ⌝ }
+    ensures { λ r. ⌜ r ≡ lengthsShort n m workers (lengthsIn lengths) ⌝ }
 {
     let places = workers * n + 1;
     if steps::rows_short(n, m, lengths.offsets, lengths.targets, lengths.marks) {
@@ -55,7 +55,7 @@ fn judge(
     schedule: &[u8],
     lengths: Lengths,
 ) -> ReadAnswer
-    ensures { λ r. ⌜ r ≡ earlyAnswer (now (file .entry)) source workers (now (schedule .entry)) lengths ⌝ }
+    ensures { λ r. ⌜ r ≡ earlyAnswer (now (file .entry)) source workers (now (schedule .entry)) (lengthsIn lengths) ⌝ }
 {
     let head = steps::header(file);
     if head.number != numbers::SUCCESS {

@@ -1,25 +1,25 @@
 // The run of a schedule: the opening, then event after event up to the finishing one or to the end.
 ghost use mathlib.Core.Path.{_≡_};
 ghost use mathlib.Core.Bool.{cond};
-ghost use Prim.Native.Nat.{_<_};
+ghost use Prim.Native.Nat.{_<_, _≤_};
 ghost use lib.ListN.{length, set, replicate};
 ghost use Rattle.numbers.specs.Numbers.{unset};
 ghost use Rattle.graph.specs.Graph.{rowsOf};
 ghost use Rattle.model.specs.Play.{play};
-ghost use Rattle.search.specs.Runs.{Sized, Opened, answerOf, Runnable, Ran};
+ghost use Rattle.search.specs.Runs.{Sized, FirstLayer, answerOf, Runnable, Ran};
 use crate::Answer;
-use crate::crew::all_idle;
-use crate::crew::gather;
-use crate::crew::opened;
-use crate::crew::split;
-use crate::crew::unite;
-use crate::moves::work;
 use bag::Bag;
 use lists::put;
 use schedule::Event;
+use workers::all_idle;
+use workers::gather;
+use workers::opened;
+use workers::split;
+use workers::unite;
+use workers::work;
 
 // "The source starts with distance 0, itself as parent, alone in worker 0's input bag .. All else is
-// unset": the bag.
+// unset". Gives the bag.
 fn open(
     source: u16,
     workers: usize,
@@ -31,7 +31,7 @@ fn open(
 ) -> Bag
     requires { ⌜ source < length (now distances) ⌝ }
     requires { ⌜ Sized workers (now distances) (now parents) (now left) (now right) (now number) ⌝ }
-    ensures { λ r. ⌜ Opened workers source (now (distances .entry)) (now (distances .exit)) (now (parents .exit)) (now (left .exit)) (now (right .exit)) (now (number .exit)) (r .slots) ⌝ }
+    ensures { λ r. ⌜ FirstLayer workers source (now (distances .entry)) (now (distances .exit)) (now (parents .exit)) (now (left .exit)) (now (right .exit)) (now (number .exit)) (r .slots) ⌝ }
 {
     label(source, distances, parents);
     bag::pool(left, workers * distances.len());
@@ -54,12 +54,13 @@ fn label(source: u16, distances: &mut [u16], parents: &mut [u16])
 // 1 for an event whose condition was met.
 fn count(met: bool) -> usize
     ensures { λ r. ⌜ r ≡ cond met 1 0 ⌝ }
+    ensures { λ r. ⌜ r ≤ 1 ⌝ }
 {
     if met { 1 } else { 0 }
 }
 
 // The run's answer.
-fn answer(number: usize, used: usize, effective: usize, layer: u16) -> Answer
+fn conclude(number: usize, used: usize, effective: usize, layer: u16) -> Answer
     ensures { λ r. ⌜ r ≡ answerOf number used effective layer ⌝ }
 {
     Answer {
@@ -129,10 +130,11 @@ pub fn run(
             Event::Close => {
                 if all_idle(crew, workers) {
                     let united = gather(crew, workers, left, right);
+                    // "d grows by 1", unless the search is finished: "d stays".
                     let next = layer + 1;
                     effective += 1;
                     if bag::is_empty(united) {
-                        return answer(numbers::SUCCESS, used, effective, layer);
+                        return conclude(numbers::SUCCESS, used, effective, layer);
                     }
                     layer = next;
                     crew = opened(united);
@@ -141,5 +143,5 @@ pub fn run(
             Event::Malformed => {}
         }
     }
-    answer(numbers::UNFINISHED, used, effective, layer)
+    conclude(numbers::UNFINISHED, used, effective, layer)
 }

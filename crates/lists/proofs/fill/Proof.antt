@@ -41,7 +41,8 @@ loop-again c =
     let i = at-loop .loop .i in
     let below : i < count = omega arith in (
       search needs,
-      overlay-store (replicate count y) (at-start .args .list .now) (at-loop .loop .inv .1) (sym (getD-replicate count i y 0 below)) (rw length-replicate below) (omega arith),
+      overlay-store (replicate count y) (at-start .args .list .now) (at-loop .loop .inv .1) (sym (getD-replicate count i y 0 below))
+          (rw length-replicate below) (omega arith),
       length-set (at-loop .loop .list) i y ∙ at-loop .loop .inv .2,
     )
 

@@ -6,6 +6,7 @@ use Rattle.graph.proofs.ReadFacts.{header-fits}
 use Rattle.schedule.proofs.Schedules.{schedule-passed}
 use Rattle.schedule.specs.Check.{scheduleNumber}
 use Rattle.search.proofs.JudgeFacts.{judged-header, judged-scan, judged-source, judged-schedule, judged-short, judged-whole}
+use Rattle.search.specs.Input.{lengthsIn}
 use Rattle.search.proofs.call.judge.Statement.{statement}
 use Rattle.search.proofs.call.judge.Tie as tie
 
@@ -16,11 +17,12 @@ returns : tie.Need-returns
 returns c =
     let headed = c .before .before in
     let a = headed .before .before .before .args in
-    judged-header (a .file .now) (a .source) (a .workers) (a .schedule .now) (a .lengths) (headed .header .ensures) (c .if1 .taken)
+    judged-header (a .file .now) (a .source) (a .workers) (a .schedule .now) (lengthsIn (a .lengths)) (headed .header .ensures) (c .if1 .taken)
 
 -- past the header, n and m are the file's
 sized : (c : tie.Else1)
-    → Sized (c .before .before .before .before .before .args .file .now) (c .before .before .header .result .vertices) (c .before .before .header .result .edges)
+    → let head = c .before .before in
+    Sized (head .before .before .before .args .file .now) (head .header .result .vertices) (head .header .result .edges)
 sized c = header-fits (c .before .before .before .before .before .args .file .now) (c .before .before .header .ensures) (c .if1 .left)
 
 scan-requires : tie.Need-scan-requires
@@ -35,7 +37,7 @@ returns-2 c =
     let passed = scanned .before in
     let headed = passed .before .before in
     let a = headed .before .before .before .args in
-    judged-scan (a .file .now) (a .source) (a .workers) (a .schedule .now) (a .lengths) (headed .header .ensures) (passed .if1 .left)
+    judged-scan (a .file .now) (a .source) (a .workers) (a .schedule .now) (lengthsIn (a .lengths)) (headed .header .ensures) (passed .if1 .left)
     (scanned .scan .ensures) (c .before .if2 .taken) (c .refused .ensures)
 
 refused-requires-2 : tie.Need-refused-requires-2
@@ -48,7 +50,7 @@ returns-3 c =
     let passed = scanned .before in
     let headed = passed .before .before in
     let a = headed .before .before .before .args in
-    judged-source (a .file .now) (a .source) (a .workers) (a .schedule .now) (a .lengths) (headed .header .ensures) (passed .if1 .left)
+    judged-source (a .file .now) (a .source) (a .workers) (a .schedule .now) (lengthsIn (a .lengths)) (headed .header .ensures) (passed .if1 .left)
     (scanned .scan .ensures) (clean .if2 .left) (c .before .if3 .taken) (c .refused2 .ensures)
 
 schedule-number-requires : tie.Need-schedule-number-requires
@@ -66,7 +68,7 @@ returns-4 c =
     let passed = scanned .before in
     let headed = passed .before .before in
     let a = headed .before .before .before .args in
-    judged-schedule (a .file .now) (a .source) (a .workers) (a .schedule .now) (a .lengths) (headed .header .ensures) (passed .if1 .left)
+    judged-schedule (a .file .now) (a .source) (a .workers) (a .schedule .now) (lengthsIn (a .lengths)) (headed .header .ensures) (passed .if1 .left)
     (scanned .scan .ensures) (clean .if2 .left) (near .if3 .left) (formed .schedule-number .ensures) (c .before .if4 .taken) (c .refused3 .ensures)
 
 lengths-short-requires : tie.Need-lengths-short-requires
@@ -91,7 +93,7 @@ returns-5 c =
     let passed = scanned .before in
     let headed = passed .before .before in
     let a = headed .before .before .before .args in
-    judged-short (a .file .now) (a .source) (a .workers) (a .schedule .now) (a .lengths) (headed .header .ensures) (passed .if1 .left)
+    judged-short (a .file .now) (a .source) (a .workers) (a .schedule .now) (lengthsIn (a .lengths)) (headed .header .ensures) (passed .if1 .left)
     (scanned .scan .ensures) (clean .if2 .left) (near .if3 .left) (formed .schedule-number .ensures) (well .if4 .left) (seen .lengths-short .ensures)
     (c .before .if5 .taken) (c .refused4 .ensures)
 
@@ -106,7 +108,7 @@ returns-6 c =
     let passed = scanned .before in
     let headed = passed .before .before in
     let a = headed .before .before .before .args in
-    judged-whole (a .file .now) (a .source) (a .workers) (a .schedule .now) (a .lengths) (headed .header .ensures) (passed .if1 .left)
+    judged-whole (a .file .now) (a .source) (a .workers) (a .schedule .now) (lengthsIn (a .lengths)) (headed .header .ensures) (passed .if1 .left)
     (scanned .scan .ensures) (clean .if2 .left) (near .if3 .left) (formed .schedule-number .ensures) (well .if4 .left) (seen .lengths-short .ensures)
     (c .if5 .left)
 

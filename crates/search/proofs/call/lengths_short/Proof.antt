@@ -1,10 +1,12 @@
 -- `search::call::lengths_short` meets its contract: each return has the tests that lead to it.
 use borrow.Author.Needs.{needs}
 use mathlib.Core.Logic.{⊎-elim}
-use mathlib.Core.Path.{sym, _∙_}
+use mathlib.Core.Path.{refl, sym, _∙_}
 use native.Mathlib.Nat.{mul-le-mul}
 use native.Mathlib.Omega.{arith}
-use Rattle.search.proofs.JudgeFacts.{short-rows, short-distances, short-parents, short-left, short-right, short-number}
+use borrow.Author.Tests.{lt-ltb, le-ltb}
+use Rattle.search.proofs.JudgeFacts.{short-by}
+use Rattle.search.specs.Input.{lengthsIn}
 use Rattle.search.proofs.call.lengths_short.Statement.{statement}
 use Rattle.search.proofs.call.lengths_short.Tie as tie
 
@@ -20,7 +22,7 @@ rows-short-requires c κs = search needs
 returns : tie.Need-returns
 returns c =
     let a = c .before .before .args in
-    short-rows (a .n) (a .m) (a .workers) (a .lengths) (sym (c .before .rows-short .ensures) ∙ c .if1 .taken)
+    short-by (a .n) (a .m) (a .workers) (lengthsIn (a .lengths)) (sym (c .before .rows-short .ensures) ∙ c .if1 .taken) refl refl refl refl refl
 
 returns-2 : tie.Need-returns-2
 returns-2 c =
@@ -28,8 +30,8 @@ returns-2 c =
     let a = passed .before .before .args in
     let rows = sym (passed .before .rows-short .ensures) ∙ passed .if1 .left in
     ⊎-elim
-    (λ w. short-distances (a .n) (a .m) (a .workers) (a .lengths) rows (w .taken))
-    (λ w. short-parents (a .n) (a .m) (a .workers) (a .lengths) rows (w .0 .left) (w .2 .taken))
+    (λ w. short-by (a .n) (a .m) (a .workers) (lengthsIn (a .lengths)) rows (lt-ltb _ _ (w .taken)) refl refl refl refl)
+    (λ w. short-by (a .n) (a .m) (a .workers) (lengthsIn (a .lengths)) rows (le-ltb _ _ (w .0 .left)) (w .2 .taken) refl refl refl)
     (c .if2 .came)
 
 returns-3 : tie.Need-returns-3
@@ -40,8 +42,8 @@ returns-3 c =
     let a = passed .before .before .args in
     let rows = sym (passed .before .rows-short .ensures) ∙ passed .if1 .left in
     ⊎-elim
-    (λ w. short-left (a .n) (a .m) (a .workers) (a .lengths) rows (far .if2 .left) (near .if3 .left) (w .taken))
-    (λ w. short-right (a .n) (a .m) (a .workers) (a .lengths) rows (far .if2 .left) (near .if3 .left) (w .0 .left) (w .2 .taken))
+    (λ w. short-by (a .n) (a .m) (a .workers) (lengthsIn (a .lengths)) rows (le-ltb _ _ (far .if2 .left)) (near .if3 .left) (lt-ltb _ _ (w .taken)) refl refl)
+    (λ w. short-by (a .n) (a .m) (a .workers) (lengthsIn (a .lengths)) rows (le-ltb _ _ (far .if2 .left)) (near .if3 .left) (le-ltb _ _ (w .0 .left)) (w .2 .taken) refl)
     (c .if4 .came)
 
 returns-4 : tie.Need-returns-4
@@ -52,7 +54,8 @@ returns-4 c =
     let passed = far .before .before in
     let a = passed .before .before .args in
     let rows = sym (passed .before .rows-short .ensures) ∙ passed .if1 .left in
-    short-number (a .n) (a .m) (a .workers) (a .lengths) rows (far .if2 .left) (near .if3 .left) (left .if4 .left) (c .before .if5 .left)
+    short-by (a .n) (a .m) (a .workers) (lengthsIn (a .lengths)) rows (le-ltb _ _ (far .if2 .left)) (near .if3 .left) (le-ltb _ _ (left .if4 .left))
+    (c .before .if5 .left) refl
 
 pub lengths-short-spec : {M : Type 1} → statement M
 lengths-short-spec = tie.close (tie.spec mul-places add-places rows-short-requires returns returns-2 returns-3 returns-4)

@@ -2,7 +2,8 @@
 use borrow.Author.Needs.{needs}
 use Prim.Native.Nat.{_+_}
 use Rattle.model.specs.Call.{nodePlaces}
-use Rattle.search.proofs.PlayFacts.{part-length, play-runnable, play-done}
+use Rattle.lists.proofs.Overlay.{part-length}
+use Rattle.search.proofs.PlayFacts.{play-runnable, play-done}
 use Rattle.search.proofs.call.play.Statement.{statement}
 use Rattle.search.proofs.call.play.Tie as tie
 
@@ -69,7 +70,9 @@ slice-aggregate-run-7 c =
     part-length (nodePlaces (s .args .n) (s .args .workers)) (s .args .number .now) (s .pre .number-there)
 
 run-requires : tie.Need-run-requires
-run-requires c κs = play-runnable (c .before .before .before .before .before .before .before .before .before .before .before .before .before .before .before .pre)
+run-requires c κs =
+    let start = c .before .before .before .before .before .before .before .before .before .before .before .before .before .before .before in
+    play-runnable (start .pre)
 
 sweep-requires : tie.Need-sweep-requires
 sweep-requires c κs = search needs

@@ -1,11 +1,11 @@
 -- `search::call::search` meets its contract: each return is one of the ways out, and all that is promised follows from its outcome.
 use borrow.Author.Needs.{needs}
 use Rattle.model.specs.Call.{Lent}
-use Rattle.search.specs.Input.{lengthsOf}
+use Rattle.model.specs.Call.{lengthsOf}
 use Rattle.search.specs.Promise.{lentLists}
 use Rattle.search.proofs.JudgeFacts.{early-passed}
 use Rattle.search.proofs.CallFacts.{search-early, search-chains, search-playable, search-played}
-use Rattle.search.proofs.KeptFacts.{kept}
+use Rattle.search.proofs.KeptFacts.{call-keeps}
 use Rattle.search.proofs.call.search.Statement.{statement}
 use Rattle.search.proofs.call.search.Tie as tie
 
@@ -29,7 +29,7 @@ returns c =
     let e =
     search-early (a .file .now) (a .source) (a .workers) (a .schedule .now) (lentOf s) (judged .judge .ensures) (c .before .if1 .taken)
     (c .refuse .ensures) in
-    (e, kept (a .file .now) (a .source) (a .workers) (a .schedule .now) (lentOf s) e)
+    (e, call-keeps (a .file .now) (a .source) (a .workers) (a .schedule .now) (lentOf s) e)
 
 unchain-requires : tie.Need-unchain-requires
 unchain-requires c κs =
@@ -62,7 +62,7 @@ returns-2 c =
     let e =
     search-chains (a .file .now) (a .source) (a .workers) (a .schedule .now) (lentOf s) (judged .judge .ensures) (passed .if1 .left) (walked .unchain .ensures)
     (c .before .if2 .taken) (c .refuse2 .ensures) in
-    (e, kept (a .file .now) (a .source) (a .workers) (a .schedule .now) (lentOf s) e)
+    (e, call-keeps (a .file .now) (a .source) (a .workers) (a .schedule .now) (lentOf s) e)
 
 play-requires : tie.Need-play-requires
 play-requires c κs =
@@ -72,7 +72,8 @@ play-requires c κs =
     let judged = passed .before .before in
     let s = judged .before .before .before .before .before .before .before .before .before .before .before in
     let a = s .args in
-    search-playable (a .file .now) (a .source) (a .workers) (a .schedule .now) (lentOf s) (judged .judge .ensures) (passed .if1 .left) (walked .unchain .ensures)
+    search-playable (a .file .now) (a .source) (a .workers) (a .schedule .now) (lentOf s) (judged .judge .ensures) (passed .if1 .left)
+    (walked .unchain .ensures)
     (whole .if2 .left)
 
 same-length-4 : tie.Need-same-length-4
@@ -111,7 +112,7 @@ returns-3 c =
     let e =
     search-played (a .file .now) (a .source) (a .workers) (a .schedule .now) (lentOf s) (judged .judge .ensures) (passed .if1 .left) (walked .unchain .ensures)
     (whole .if2 .left) (played .play .ensures) in
-    (e, kept (a .file .now) (a .source) (a .workers) (a .schedule .now) (lentOf s) e)
+    (e, call-keeps (a .file .now) (a .source) (a .workers) (a .schedule .now) (lentOf s) e)
 
 pub search-spec : {M : Type 1} → statement M
 search-spec =

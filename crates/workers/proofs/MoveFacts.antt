@@ -1,0 +1,320 @@
+-- One worker's moves as the table has them: the two with a bag, `begin` and `stow`, and the three ways of `work`.
+use mathlib.Core.Path.{_≡_, refl, sym, ap, ap₂, _∙_, subst}
+use mathlib.Core.Bool.{Bool, true, false}
+use mathlib.Core.Logic.{_⊎_, inl, inr}
+use mathlib.Core.List.{List, [], _∷_}
+use mathlib.Core.Option.{none, some}
+use Prim.Native.Nat.{ℕ, suc, _+_, _-_, _≤_, _<_}
+use native.Mathlib.Omega.{arith}
+use lib.ListN.{length, getD}
+use Rattle.lists.specs.Lists.{sumOf}
+use Rattle.graph.specs.Graph.{Graph, rowsOf}
+use Rattle.pennant.specs.Bag.{Bag, isEmpty, takeRest, takenNumber, bagInsert}
+use Rattle.pennant.specs.Held.{copies}
+use Rattle.pennant.proofs.Laws.{taken-held}
+use Rattle.bag.specs.Nodes.{nodesOf, heldBy}
+use Rattle.bag.specs.Promises.{Pooled, Moved, Inserted, TakenFrom, uses, weighNodes}
+use Rattle.bag.specs.declared.Bag as bag
+use Rattle.bag.proofs.Family.{same-moved, pool-one, family-one, family-held-one}
+use Rattle.bag.proofs.HeldFacts.{held-empty}
+use Rattle.model.specs.Paths.{Labels}
+use Rattle.model.specs.State as model
+use Rattle.model.specs.Table.{holdAt, move, moveOf}
+use Rattle.workers.specs.declared.Phase.{Phase}
+use Rattle.workers.specs.declared.Phase.the-variants.{Free, Holding, InHand, Marked, Named}
+use Rattle.workers.specs.declared.Worker.{Worker}
+use Rattle.workers.specs.Shown.{labelsOf, phaseOf, workerOf, bagsOf}
+use Rattle.workers.specs.Steps.{Ground, EdgeOf, Fits, holdFrom, Between, Advanced, Apart, Stocked, Begun, Stowed, Workable, Worked}
+use Rattle.workers.proofs.TriedFacts.{tried-met}
+use Rattle.workers.proofs.RowFacts.{offsets-long, hold-shown, hold-fits, pass-shown, pass-fits}
+
+-- Two bags of one pool, of which one moves.
+
+-- the first of two moves, and the numbers may change at its nodes and at free ones
+module _ {left right left′ right′ a b a′ : List ℕ} (pool : Pooled left right (a ∷ b ∷ [])) (moved : Moved left right (a ∷ []) left′ right′ (a′ ∷ [])) where
+  -- so the two move
+  first-moved : Moved left right (a ∷ b ∷ []) left′ right′ (a′ ∷ b ∷ [])
+  first-moved = family-one left right left′ right′ (a ∷ b ∷ []) 0 a′ pool (omega arith) moved .moved
+
+  -- and the second holds what it held
+  first-held : (number number′ : List ℕ) → ((x : ℕ) → 0 < x → uses x left right (a ∷ []) ≡ 0 → getD number′ x 0 ≡ getD number x 0)
+      → heldBy left′ right′ number′ b ≡ heldBy left right number b
+  first-held number number′ agree =
+      ap (λ (l : List Bag). getD l 1 []) (family-held-one left right left′ right′ (a ∷ b ∷ []) 0 a′ pool (omega arith) moved number number′ agree)
+
+-- the second of two moves
+module _ {left right left′ right′ a b b′ : List ℕ} (pool : Pooled left right (a ∷ b ∷ [])) (moved : Moved left right (b ∷ []) left′ right′ (b′ ∷ [])) where
+  -- so the two move
+  second-moved : Moved left right (a ∷ b ∷ []) left′ right′ (a ∷ b′ ∷ [])
+  second-moved = family-one left right left′ right′ (a ∷ b ∷ []) 1 b′ pool (omega arith) moved .moved
+
+  -- and the first holds what it held
+  second-held : (number number′ : List ℕ) → ((x : ℕ) → 0 < x → uses x left right (b ∷ []) ≡ 0 → getD number′ x 0 ≡ getD number x 0)
+      → heldBy left′ right′ number′ a ≡ heldBy left right number a
+  second-held number number′ agree =
+      ap (λ (l : List Bag). getD l 0 []) (family-held-one left right left′ right′ (a ∷ b ∷ []) 1 b′ pool (omega arith) moved number number′ agree)
+
+-- what two bags don't use the second doesn't
+unused-second : (left right a b : List ℕ) (x : ℕ) → uses x left right (a ∷ b ∷ []) ≡ 0 → uses x left right (b ∷ []) ≡ 0
+unfolding weighNodes sumOf
+unused-second left right a b x h = omega arith
+
+-- a phase changes nothing
+pub same-apart : (worker : Worker) (phase : Phase) (left right number : List ℕ)
+    → Apart (worker ∷ []) left right number left right number (record { input = worker .input; output = worker .output; phase = phase } ∷ [])
+unfolding bagsOf
+same-apart worker phase left right number = record {
+  moved = same-moved (λ f. refl);
+  kept-number = λ x h c. refl;
+}
+
+-- What the calls need.
+
+module _ (worker : Worker) (left right number : List ℕ) (stocked : Stocked worker left right number) where
+  -- the two bags of a worker
+  pub both-pooled : Pooled left right (worker .input .slots ∷ worker .output .slots ∷ [])
+  unfolding bagsOf
+  both-pooled = stocked .pool
+
+  -- its input bag
+  pub input-pooled : Pooled left right (worker .input .slots ∷ [])
+  input-pooled = pool-one (worker .input .slots ∷ worker .output .slots ∷ []) 0 both-pooled (omega arith)
+
+  -- its output bag
+  pub output-pooled : Pooled left right (worker .output .slots ∷ [])
+  output-pooled = pool-one (worker .input .slots ∷ worker .output .slots ∷ []) 1 both-pooled (omega arith)
+
+-- the number taken was held
+pub taken-below : (left right number slots left′ slots′ : List ℕ) (value : ℕ) → isEmpty (nodesOf left right slots) ≡ false
+    → TakenFrom left right number slots left′ slots′ value
+    → 1 ≤ copies value (heldBy left right number slots)
+taken-below left right number slots left′ slots′ value filled taken =
+    rw (taken .taken) (taken-held (heldBy left right number slots) (held-empty left right number slots ∙ filled))
+
+-- Begin.
+
+-- a free worker's move in the table
+free-move : (g : Graph) (layer : ℕ) (x : Labels) (offsets left right number : List ℕ) (worker : Worker) → worker .phase ≡ Free
+    → moveOf g layer x (workerOf offsets left right number worker)
+    ≡ move g layer x (heldBy left right number (worker .input .slots)) (heldBy left right number (worker .output .slots)) model.free
+unfolding workerOf phaseOf
+free-move g layer x offsets left right number worker free =
+    let input = heldBy left right number (worker .input .slots) in
+    let output = heldBy left right number (worker .output .slots) in
+    ap (λ (p : Phase). move g layer x input output (phaseOf offsets p)) free
+
+-- no move with an empty bag
+free-none : (g : Graph) (layer : ℕ) (x : Labels) (input output : Bag) → isEmpty input ≡ true → move g layer x input output model.free ≡ none
+unfolding move
+free-none g layer x input output empty = rw empty
+
+-- and with a bag that isn't empty the one that takes
+free-take : (g : Graph) (layer : ℕ) (x : Labels) (input output : Bag) → isEmpty input ≡ false
+    → move g layer x input output model.free ≡ some (model.workerWith (takeRest input) output (holdAt g (takenNumber input) 0), x)
+unfolding move
+free-take g layer x input output filled = rw filled
+
+-- a free worker with an empty bag stays as it is
+pub begin-none : (worker : Worker) (offsets left right number : List ℕ) → worker .phase ≡ Free → isEmpty (nodesOf left right (worker .input .slots)) ≡ true
+    → Begun worker offsets left right number left worker false
+begin-none worker offsets left right number free empty = record {
+  tried = λ targets n ground layer distances parents. record {
+    happens =
+        free-move (rowsOf offsets targets) layer (labelsOf distances parents) offsets left right number worker free
+        ∙ free-none (rowsOf offsets targets) layer (labelsOf distances parents) (heldBy left right number (worker .input .slots))
+        (heldBy left right number (worker .output .slots)) (held-empty left right number (worker .input .slots) ∙ empty);
+    kept = λ e. refl;
+  };
+  apart = same-apart worker (worker .phase) left right number;
+  phase-fits = λ targets n ground. subst (λ (p : Phase). Fits offsets n p) (sym free) tt;
+}
+
+-- a free worker takes a number and holds the vertex
+pub begin-taken : (worker : Worker) (offsets left right number left′ : List ℕ) (rest : bag.Bag) (value : ℕ) → worker .phase ≡ Free
+    → Stocked worker left right number
+    → isEmpty (nodesOf left right (worker .input .slots)) ≡ false
+    → TakenFrom left right number (worker .input .slots) left′ (rest .slots) value
+    → value + 1 < length offsets
+    → Begun worker offsets left right number left′
+    (record { input = rest; output = worker .output; phase = holdFrom offsets value (getD offsets value 0) }) true
+unfolding bagsOf workerOf
+begin-taken worker offsets left right number left′ rest value free stocked filled taken below = record {
+  tried = λ targets n ground layer distances parents. tried-met (happens targets n ground layer (labelsOf distances parents));
+  apart = record {
+    moved = first-moved pool (taken .moved);
+    kept-number = λ x h c. refl;
+  };
+  phase-fits = λ targets n ground. hold-fits ground value (getD offsets value 0) (omega (arith, below, offsets-long ground)) (omega arith);
+}
+  where
+    pool : Pooled left right (worker .input .slots ∷ worker .output .slots ∷ [])
+    pool = both-pooled worker left right number stocked
+
+    input : Bag
+    input = heldBy left right number (worker .input .slots)
+
+    output : Bag
+    output = heldBy left right number (worker .output .slots)
+
+    -- the output bag holds what it held
+    output-same : heldBy left′ right number (worker .output .slots) ≡ output
+    output-same = first-held pool (taken .moved) number number (λ x h c. refl)
+
+    -- the phase is the model's at the first edge of the number taken
+    phase-same : (targets : List ℕ) (n : ℕ) → Ground offsets targets n
+        → phaseOf offsets (holdFrom offsets value (getD offsets value 0)) ≡ holdAt (rowsOf offsets targets) (takenNumber input) 0
+    phase-same targets n ground =
+        let first : getD offsets value 0 - getD offsets value 0 ≡ 0 = omega arith in
+        hold-shown ground value (getD offsets value 0) (omega (arith, below, offsets-long ground)) (omega arith)
+        ∙ ap₂ (λ (v i : ℕ). holdAt (rowsOf offsets targets) v i) (taken .taken) first
+
+    happens : (targets : List ℕ) (n : ℕ) → Ground offsets targets n → (layer : ℕ) (x : Labels)
+        → moveOf (rowsOf offsets targets) layer x (workerOf offsets left right number worker)
+        ≡ some (
+          model.workerWith (heldBy left′ right number (rest .slots)) (heldBy left′ right number (worker .output .slots))
+              (phaseOf offsets (holdFrom offsets value (getD offsets value 0))),
+          x,
+        )
+    happens targets n ground layer x =
+        free-move (rowsOf offsets targets) layer x offsets left right number worker free
+        ∙ free-take (rowsOf offsets targets) layer x input output (held-empty left right number (worker .input .slots) ∙ filled)
+        ∙ sym (rw (taken .held, output-same, phase-same targets n ground))
+
+-- the same for a phase that is found to be that one
+pub begin-held : (worker : Worker) (offsets left right number left′ : List ℕ) (rest : bag.Bag) (value first : ℕ) (phase : Phase) → worker .phase ≡ Free
+    → Stocked worker left right number
+    → isEmpty (nodesOf left right (worker .input .slots)) ≡ false
+    → TakenFrom left right number (worker .input .slots) left′ (rest .slots) value
+    → value + 1 < length offsets
+    → first ≡ getD offsets value 0
+    → phase ≡ holdFrom offsets value first
+    → Begun worker offsets left right number left′ (record { input = rest; output = worker .output; phase = phase }) true
+begin-held worker offsets left right number left′ rest value first phase free stocked filled taken below start held =
+    subst (λ (p : Phase). Begun worker offsets left right number left′ (record { input = rest; output = worker .output; phase = p }) true)
+    (sym (held ∙ ap (λ (e : ℕ). holdFrom offsets value e) start))
+    (begin-taken worker offsets left right number left′ rest value free stocked filled taken below)
+
+-- Stow.
+
+-- the move in the table of a worker that has named its target
+named-move : (g : Graph) (layer : ℕ) (x : Labels) (offsets left right number : List ℕ) (worker : Worker) (u e t : ℕ) → worker .phase ≡ Named u e t
+    → moveOf g layer x (workerOf offsets left right number worker)
+    ≡ some (
+      model.workerWith (heldBy left right number (worker .input .slots)) (bagInsert t (heldBy left right number (worker .output .slots)))
+          (holdAt g u (suc (e - getD offsets u 0))),
+      x,
+    )
+unfolding workerOf phaseOf move
+named-move g layer x offsets left right number worker u e t named =
+    let input = heldBy left right number (worker .input .slots) in
+    let output = heldBy left right number (worker .output .slots) in
+    ap (λ (p : Phase). move g layer x input output (phaseOf offsets p)) named
+
+-- a worker that has named its target inserts it and passes on
+pub stow-made : (worker : Worker) (u e t : ℕ) (offsets left right number left′ right′ number′ : List ℕ) (output : bag.Bag) → worker .phase ≡ Named u e t
+    → Stocked worker left right number
+    → Inserted left right number (worker .output .slots) t left′ right′ number′ (output .slots)
+    → Stowed worker offsets left right number left′ right′ number′ (record { input = worker .input; output = output; phase = holdFrom offsets u (e + 1) })
+unfolding bagsOf workerOf
+stow-made worker u e t offsets left right number left′ right′ number′ output named stocked inserted = record {
+  made = λ targets n ground fits layer distances parents.
+      named-move (rowsOf offsets targets) layer (labelsOf distances parents) offsets left right number worker u e t named
+      ∙ sym (rw (input-same, inserted .held, pass-shown ground (edge n fits)));
+  apart = record {
+    moved = second-moved pool (inserted .moved);
+    kept-number = λ x h c. inserted .kept-number x h (unused-second left right (worker .input .slots) (worker .output .slots) x c);
+  };
+  phase-fits = λ targets n ground fits. pass-fits ground (edge n fits);
+}
+  where
+    pool : Pooled left right (worker .input .slots ∷ worker .output .slots ∷ [])
+    pool = both-pooled worker left right number stocked
+
+    -- its edge is one of u
+    edge : (n : ℕ) → Fits offsets n (worker .phase) → EdgeOf offsets n u e
+    edge n fits = subst (λ (p : Phase). Fits offsets n p) named fits .0
+
+    -- the input bag holds what it held
+    input-same : heldBy left′ right′ number′ (worker .input .slots) ≡ heldBy left right number (worker .input .slots)
+    input-same = second-held pool (inserted .moved) number number′ (inserted .kept-number)
+
+-- the same for a phase that is found to be the next one
+pub stow-held : (worker : Worker) (u e t : ℕ) (offsets left right number left′ right′ number′ : List ℕ) (output : bag.Bag) (phase : Phase)
+    → worker .phase ≡ Named u e t
+    → Stocked worker left right number
+    → Inserted left right number (worker .output .slots) t left′ right′ number′ (output .slots)
+    → phase ≡ holdFrom offsets u (e + 1)
+    → Stowed worker offsets left right number left′ right′ number′ (record { input = worker .input; output = output; phase = phase })
+stow-held worker u e t offsets left right number left′ right′ number′ output phase named stocked inserted held =
+    subst (λ (p : Phase). Stowed worker offsets left right number left′ right′ number′ (record { input = worker .input; output = output; phase = p }))
+    (sym held)
+    (stow-made worker u e t offsets left right number left′ right′ number′ output named stocked inserted)
+
+-- The phases between.
+
+-- a phase that is neither free nor named moves without a bag, whatever tells the phases apart
+pub between-others : (tag : Phase → ℕ) → tag Free ≡ 0 → ((u e t : ℕ) → tag (Named u e t) ≡ 4) → (phase : Phase)
+    → (tag phase ≡ 1) ⊎ ((tag phase ≡ 2) ⊎ ((tag phase ≡ 3) ⊎ (tag phase ≡ 4)))
+    → (tag phase ≡ 0) ⊎ ((tag phase ≡ 1) ⊎ ((tag phase ≡ 2) ⊎ (tag phase ≡ 3)))
+    → Between phase
+between-others tag first last Free h k = later h
+  where
+    later : (tag Free ≡ 1) ⊎ ((tag Free ≡ 2) ⊎ ((tag Free ≡ 3) ⊎ (tag Free ≡ 4))) → ⊥
+    later (inl e) = omega (arith, first)
+    later (inr (inl e)) = omega (arith, first)
+    later (inr (inr (inl e))) = omega (arith, first)
+    later (inr (inr (inr e))) = omega (arith, first)
+between-others tag first last (Holding u e) h k = tt
+between-others tag first last (InHand u e t) h k = tt
+between-others tag first last (Marked u e t) h k = tt
+between-others tag first last (Named u e t) h k = earlier k
+  where
+    earlier : (tag (Named u e t) ≡ 0) ⊎ ((tag (Named u e t) ≡ 1) ⊎ ((tag (Named u e t) ≡ 2) ⊎ (tag (Named u e t) ≡ 3))) → ⊥
+    earlier (inl q) = omega (arith, last u e t)
+    earlier (inr (inl q)) = omega (arith, last u e t)
+    earlier (inr (inr (inl q))) = omega (arith, last u e t)
+    earlier (inr (inr (inr q))) = omega (arith, last u e t)
+
+-- a phase that is known to be none of these
+pub not-between : {R : Type 0} {phase p : Phase} → phase ≡ p → (Between p → ⊥) → Between phase → R
+not-between is never h = absurd (never (subst Between is h))
+
+-- Work.
+
+module _ {worker : Worker} {layer : ℕ} {offsets targets distances parents left right number : List ℕ}
+    (workable : Workable worker layer offsets targets distances parents left right number) where
+  -- what a free worker may take
+  pub work-input : (v : ℕ) → 1 ≤ copies v (heldBy left right number (worker .input .slots)) → (v + 1 < length offsets) × (v + 1 < 65536)
+  work-input v h =
+      let below = workable .input-below v h in
+      (omega (arith, offsets-long (workable .rows)), omega (arith, workable .rows .few-vertices))
+
+  -- a free worker's move
+  pub work-begun : {left′ : List ℕ} {worker′ : Worker} {met : Bool} → Begun worker offsets left right number left′ worker′ met
+      → Worked worker layer offsets targets distances parents left right number distances parents left′ right number worker′ met
+  work-begun begun = record {
+    tried = begun .tried targets (length distances) (workable .rows) layer distances parents;
+    apart = begun .apart;
+    phase-fits = begun .phase-fits targets (length distances) (workable .rows);
+  }
+
+  -- the move of a worker that has named its target
+  pub work-stowed : {left′ right′ number′ : List ℕ} {worker′ : Worker} → Stowed worker offsets left right number left′ right′ number′ worker′
+      → Worked worker layer offsets targets distances parents left right number distances parents left′ right′ number′ worker′ true
+  work-stowed stowed = record {
+    tried = tried-met (stowed .made targets (length distances) (workable .rows) (workable .phase-fits) layer distances parents);
+    apart = stowed .apart;
+    phase-fits = stowed .phase-fits targets (length distances) (workable .rows) (workable .phase-fits);
+  }
+
+  -- a move without a bag
+  pub work-advanced : {distances′ parents′ : List ℕ} {phase′ : Phase}
+      → Advanced (worker .phase) layer offsets targets distances parents distances′ parents′ phase′
+      → Worked worker layer offsets targets distances parents left right number distances′ parents′ left right number
+      (record { input = worker .input; output = worker .output; phase = phase′ }) true
+  unfolding workerOf
+  work-advanced {phase′ = phase′} advanced = record {
+    tried = tried-met (advanced .made (heldBy left right number (worker .input .slots)) (heldBy left right number (worker .output .slots)));
+    apart = same-apart worker phase′ left right number;
+    phase-fits = advanced .phase-fits;
+  }

@@ -1,0 +1,258 @@
+-- The rows that offsets and targets stand for, the phases at their edges, and the three moves of a worker that need no bag.
+use mathlib.Core.Path.{_≡_, refl, sym, ap, _∙_, subst}
+use mathlib.Core.Bool.{Bool, true, false, cond}
+use mathlib.Core.List.{List}
+use mathlib.Core.Option.{none, some}
+use Prim.Native.Nat.{ℕ, suc, _+_, _-_, _≤_, _<_}
+use native.Mathlib.Numerals.{add-one}
+use native.Mathlib.Omega.{arith}
+use lib.Dec.{ltb, eqb}
+use lib.ListN.{length, getD, take, drop, set}
+use lib.Seq.{getD-take, getD-drop}
+use borrow.Author.Tests.{ltb-true, ltb-false, lt-ltb, le-ltb, ne-eqb}
+use Rattle.numbers.specs.Numbers.{unset}
+use Rattle.lists.proofs.Tests.{reaches-at}
+use Rattle.graph.specs.Graph.{edges, offsetsOf, rowsOf}
+use Rattle.graph.specs.Write.{rowCount}
+use Rattle.graph.proofs.Bridge.{Rows, graph-rows, offsets-count, length-rows, row-at, offsets-rise, offsets-end, row-between}
+use Rattle.model.specs.Paths.{edgeTarget, Labels, isSet}
+use Rattle.model.specs.State as model
+use Rattle.model.specs.Table.{holdAt, look, move}
+use Rattle.workers.specs.declared.Phase.{Phase}
+use Rattle.workers.specs.declared.Phase.the-variants.{Free, Holding, InHand, Marked, Named}
+use Rattle.workers.specs.Shown.{optionOf, labelsOf, phaseOf}
+use Rattle.workers.specs.Steps.{Ground, EdgeOf, Fits, holdFrom, lookAt, Advanced}
+use Rattle.workers.proofs.WordFacts.{label-at, mark-shown, name-shown}
+
+-- what an edge of a vertex needs no test for: each index is in its list and fits 16 bits
+pub record EdgeSmall (offsets targets : List ℕ) (n u e : ℕ) : Type 0 where
+  pub edge-below : e < length targets
+  pub edge-small : e + 1 < 65536
+  pub vertex-below : u + 1 < length offsets
+  pub vertex-small : u + 1 < 65536
+  pub target-below : getD targets e 0 < n
+
+module _ {offsets targets : List ℕ} {n : ℕ} (ground : Ground offsets targets n) where
+  -- the offsets don't fall and end where the targets do
+  ground-rows : Rows offsets targets
+  ground-rows =
+      let g = rowsOf offsets targets in
+      subst (λ (l : List ℕ). Rows l targets) (sym (ground .starts)) (subst (λ (l : List ℕ). Rows (offsetsOf g) l) (sym (ground .ends)) (graph-rows g))
+
+  -- a row for each vertex
+  ground-count : rowCount offsets ≡ n
+  ground-count = sym (length-rows offsets targets) ∙ ground .count
+
+  -- a vertex has a row
+  has-row : (u : ℕ) → u < n → u < rowCount offsets
+  has-row u h = omega (arith, ground-count)
+
+  -- one offset more than vertices
+  pub offsets-long : length offsets ≡ suc n
+  offsets-long = offsets-count offsets (ground-rows .some) ∙ ap suc ground-count
+
+  -- the edges of u are the targets from its offset up to the next one
+  row-is : (u : ℕ) → u < n → edges (rowsOf offsets targets) u ≡ take (getD offsets (u + 1) 0 - getD offsets u 0) (drop (getD offsets u 0) targets)
+  row-is u h = rw (add-one u) (row-at offsets targets u (has-row u h))
+
+  -- the offsets of a vertex don't fall
+  pub rows-rise : (u : ℕ) → u < n → getD offsets u 0 ≤ getD offsets (u + 1) 0
+  rows-rise u h = rw (add-one u) (offsets-rise offsets targets ground-rows u (has-row u h))
+
+  -- no row passes the end of the targets
+  pub rows-within : (u : ℕ) → u < n → getD offsets (u + 1) 0 ≤ length targets
+  rows-within u h = rw (add-one u) (offsets-end offsets targets ground-rows u (has-row u h))
+
+  -- from the offset of a vertex its edges lead to the next offset
+  pub row-ends : (u : ℕ) → u < n → getD offsets u 0 + length (edges (rowsOf offsets targets) u) ≡ getD offsets (u + 1) 0
+  row-ends u h =
+      ap (λ (l : List ℕ). getD offsets u 0 + length l) (row-is u h)
+      ∙ row-between (getD offsets u 0) (getD offsets (u + 1) 0) targets (rows-rise u h) (rows-within u h)
+
+  -- the target of an edge stands so far behind the offset
+  pub row-target : (u i : ℕ) → u < n → i < length (edges (rowsOf offsets targets) u)
+      → edgeTarget (rowsOf offsets targets) u i ≡ getD targets (getD offsets u 0 + i) 0
+  row-target u i h k =
+      ap (λ (l : List ℕ). getD l i 0) (row-is u h)
+      ∙ getD-take (getD offsets (u + 1) 0 - getD offsets u 0) (drop (getD offsets u 0) targets) i 0 (omega (arith, row-ends u h))
+      ∙ getD-drop (getD offsets u 0) targets i 0
+
+  -- every target is a vertex
+  pub target-below : (e : ℕ) → e < length targets → getD targets e 0 < n
+  target-below e h = reaches-at n targets e (ground .below) h
+
+  -- the engine's phase at edge e of u is the model's
+  pub hold-shown : (u e : ℕ) → u < n → getD offsets u 0 ≤ e
+      → phaseOf offsets (holdFrom offsets u e) ≡ holdAt (rowsOf offsets targets) u (e - getD offsets u 0)
+  unfolding phaseOf holdFrom holdAt
+  hold-shown u e h k = go (ltb e (getD offsets (u + 1) 0)) refl
+    where
+      start : ℕ
+      start = getD offsets u 0
+
+      size : ℕ
+      size = length (edges (rowsOf offsets targets) u)
+
+      go : (b : Bool) → ltb e (getD offsets (u + 1) 0) ≡ b
+          → phaseOf offsets (cond (ltb e (getD offsets (u + 1) 0)) (Holding u e) Free) ≡ cond (ltb (e - start) size) (model.holding u (e - start)) model.free
+      go true q = rw (q, lt-ltb (e - start) size (omega (arith, ltb-true e (getD offsets (u + 1) 0) q, row-ends u h)))
+      go false q = rw (q, le-ltb (e - start) size (omega (arith, ltb-false e (getD offsets (u + 1) 0) q, row-ends u h)))
+
+  -- and fits
+  pub hold-fits : (u e : ℕ) → u < n → getD offsets u 0 ≤ e → Fits offsets n (holdFrom offsets u e)
+  unfolding holdFrom
+  hold-fits u e h k = go (ltb e (getD offsets (u + 1) 0)) refl
+    where
+      go : (b : Bool) → ltb e (getD offsets (u + 1) 0) ≡ b → Fits offsets n (cond b (Holding u e) Free)
+      go true q = record { vertex = h; first = k; last = ltb-true e (getD offsets (u + 1) 0) q }
+      go false q = tt
+
+  -- an edge of a vertex is in the lists
+  pub edge-small : {u e : ℕ} → EdgeOf offsets n u e → EdgeSmall offsets targets n u e
+  edge-small {u} {e} edge =
+      let within = rows-within u (edge .vertex) in
+      record {
+        edge-below = omega (arith, edge .last);
+        edge-small = omega (arith, edge .last, ground .few-edges);
+        vertex-below = omega (arith, edge .vertex, offsets-long);
+        vertex-small = omega (arith, edge .vertex, ground .few-vertices);
+        target-below = target-below e (omega (arith, edge .last));
+      }
+
+-- The phases that the engine makes.
+
+module _ (offsets : List ℕ) (u e : ℕ) (end : ℕ) (at : end ≡ getD offsets (u + 1) 0) where
+  -- before the end of the row it holds
+  pub hold-there : e < end → Holding u e ≡ holdFrom offsets u e
+  unfolding holdFrom
+  hold-there h = rw (lt-ltb e (getD offsets (u + 1) 0) (omega (arith, at)))
+
+  -- and there it is free
+  pub hold-free : end ≤ e → Free ≡ holdFrom offsets u e
+  unfolding holdFrom
+  hold-free h = rw (le-ltb e (getD offsets (u + 1) 0) (omega (arith, at)))
+
+module _ (offsets targets distances : List ℕ) (u e t word : ℕ) (target : t ≡ getD targets e 0) (label : word ≡ getD distances t 0) where
+  -- a target whose distance is unset is in hand
+  pub look-unset : word ≡ unset → InHand u e t ≡ lookAt offsets targets distances u e
+  unfolding lookAt
+  look-unset q = rw (← target, ← label, q)
+
+  -- another is passed
+  pub look-set : (phase : Phase) → phase ≡ holdFrom offsets u (e + 1) → (word ≡ unset → ⊥) → phase ≡ lookAt offsets targets distances u e
+  unfolding lookAt
+  look-set phase held apart = rw (← target, ← label, ne-eqb word unset apart) held
+
+-- At an edge of u.
+
+module _ {offsets targets : List ℕ} {n : ℕ} (ground : Ground offsets targets n) {u e : ℕ} (edge : EdgeOf offsets n u e) where
+  -- edge e of all is the model's edge of u
+  edge-target : edgeTarget (rowsOf offsets targets) u (e - getD offsets u 0) ≡ getD targets e 0
+  edge-target =
+      let place : getD offsets u 0 + (e - getD offsets u 0) ≡ e = omega (arith, edge .first) in
+      row-target ground u (e - getD offsets u 0) (edge .vertex) (omega (arith, edge .first, edge .last, row-ends ground u (edge .vertex)))
+      ∙ ap (λ (i : ℕ). getD targets i 0) place
+
+  -- the next edge by both counts
+  edge-next : (e + 1) - getD offsets u 0 ≡ suc (e - getD offsets u 0)
+  edge-next = omega (arith, edge .first)
+
+  -- the phase after edge e is the model's
+  pub pass-shown : phaseOf offsets (holdFrom offsets u (e + 1)) ≡ holdAt (rowsOf offsets targets) u (suc (e - getD offsets u 0))
+  pass-shown =
+      hold-shown ground u (e + 1) (edge .vertex) (omega (arith, edge .first))
+      ∙ ap (λ (i : ℕ). holdAt (rowsOf offsets targets) u i) edge-next
+
+  -- and fits
+  pub pass-fits : Fits offsets n (holdFrom offsets u (e + 1))
+  pass-fits = hold-fits ground u (e + 1) (edge .vertex) (omega (arith, edge .first))
+
+-- The three moves without a bag.
+
+module _ {offsets targets : List ℕ} (distances : List ℕ) (ground : Ground offsets targets (length distances)) {u e : ℕ}
+    (edge : EdgeOf offsets (length distances) u e) where
+  -- the engine looks where the model does
+  look-shown : (parents : List ℕ)
+      → phaseOf offsets (lookAt offsets targets distances u e) ≡ look (rowsOf offsets targets) (labelsOf distances parents) u (e - getD offsets u 0)
+  unfolding phaseOf lookAt look optionOf
+  look-shown parents =
+      rw (edge-target ground edge, label-at distances parents (getD targets e 0) (target-below ground e (edge-small ground edge .edge-below)))
+      (go (eqb (getD distances (getD targets e 0) 0) unset))
+    where
+      i : ℕ
+      i = e - getD offsets u 0
+
+      t : ℕ
+      t = getD targets e 0
+
+      go : (b : Bool) → phaseOf offsets (cond b (InHand u e t) (holdFrom offsets u (e + 1)))
+          ≡ cond (isSet (cond b none (some (getD distances t 0)))) (holdAt (rowsOf offsets targets) u (suc i)) (model.inHand u i t)
+      go true = refl
+      go false = pass-shown ground edge
+
+  -- what it finds fits
+  look-fits : Fits offsets (length distances) (lookAt offsets targets distances u e)
+  unfolding lookAt
+  look-fits = go (eqb (getD distances (getD targets e 0) 0) unset)
+    where
+      go : (b : Bool) → Fits offsets (length distances) (cond b (InHand u e (getD targets e 0)) (holdFrom offsets u (e + 1)))
+      go true = (edge, edge-small ground edge .target-below)
+      go false = pass-fits ground edge
+
+  -- look
+  pub advance-look : (layer : ℕ) (parents : List ℕ)
+      → Advanced (Holding u e) layer offsets targets distances parents distances parents (lookAt offsets targets distances u e)
+  unfolding move phaseOf
+  advance-look layer parents = record {
+    made = λ input output. ap (λ (phase : model.Phase). some (model.workerWith input output phase, labelsOf distances parents)) (sym (look-shown parents));
+    phase-fits = look-fits;
+  }
+
+  -- mark
+  pub advance-mark : (layer t : ℕ) (parents : List ℕ) → t < length distances → layer < length distances
+      → Advanced (InHand u e t) layer offsets targets distances parents (set distances t (layer + 1)) parents (Marked u e t)
+  unfolding move phaseOf
+  advance-mark layer t parents h k = record {
+    made = λ input output.
+        ap (λ (x : Labels). some (model.workerWith input output (model.marked u (e - getD offsets u 0) t), x))
+        (sym (mark-shown distances parents t layer (omega (arith, ground .few-vertices))));
+    phase-fits = (edge, h);
+  }
+
+  -- name
+  pub advance-name : (layer t : ℕ) (parents : List ℕ) → t < length distances
+      → Advanced (Marked u e t) layer offsets targets distances parents distances (set parents t u) (Named u e t)
+  unfolding move phaseOf
+  advance-name layer t parents h = record {
+    made = λ input output.
+        ap (λ (x : Labels). some (model.workerWith input output (model.named u (e - getD offsets u 0) t), x))
+        (sym (name-shown distances parents t u (omega (arith, ground .few-vertices, edge .vertex))));
+    phase-fits = (edge, h);
+  }
+
+-- The same of a phase that is known to be one of the three.
+
+-- a phase that fits, by what it is known to be
+pub fits-as : (offsets : List ℕ) (n : ℕ) {phase p : Phase} → phase ≡ p → Fits offsets n phase → Fits offsets n p
+fits-as offsets n is fits = subst (Fits offsets n) is fits
+
+module _ {offsets targets : List ℕ} (distances : List ℕ) (ground : Ground offsets targets (length distances)) (phase : Phase)
+    (fits : Fits offsets (length distances) phase) (layer : ℕ) (parents : List ℕ) where
+  -- look
+  pub advanced-look : (u e : ℕ) (phase′ : Phase) → phase ≡ Holding u e → phase′ ≡ lookAt offsets targets distances u e
+      → Advanced phase layer offsets targets distances parents distances parents phase′
+  advanced-look u e phase′ is found = rw (is, found) (advance-look distances ground (fits-as offsets (length distances) is fits) layer parents)
+
+  -- mark
+  pub advanced-mark : (u e t : ℕ) (distances′ : List ℕ) → layer < length distances → phase ≡ InHand u e t → distances′ ≡ set distances t (layer + 1)
+      → Advanced phase layer offsets targets distances parents distances′ parents (Marked u e t)
+  advanced-mark u e t distances′ low is put =
+      let both = fits-as offsets (length distances) is fits in
+      rw (is, put) (advance-mark distances ground (both .0) layer t parents (both .1) low)
+
+  -- name
+  pub advanced-name : (u e t : ℕ) (parents′ : List ℕ) → phase ≡ Marked u e t → parents′ ≡ set parents t u
+      → Advanced phase layer offsets targets distances parents distances parents′ (Named u e t)
+  advanced-name u e t parents′ is put =
+      let both = fits-as offsets (length distances) is fits in
+      rw (is, put) (advance-name distances ground (both .0) layer t parents (both .1))

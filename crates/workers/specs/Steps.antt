@@ -1,0 +1,194 @@
+-- What the steps of the search take for granted and what they promise: one worker's move, two workers' exchange, the close. A prime marks what
+-- stands there afterwards. No outside contract cites these.
+use mathlib.Core.Path.{_≡_}
+use mathlib.Core.Bool.{Bool, true, false, cond, not, _&&_}
+use mathlib.Core.List.{List, [], _∷_}
+use mathlib.Core.Option.{Option, none, some}
+use Prim.Native.Nat.{ℕ, suc, _+_, _≤_, _<_}
+use lib.Dec.{eqb, ltb}
+use lib.ListN.{length, getD, replicate, set}
+use Rattle.numbers.specs.Numbers.{maxVertices, maxEdges, maxWorkers, unset}
+use Rattle.lists.specs.Lists.{reaches}
+use Rattle.graph.specs.Graph.{offsetsOf, targetsOf, rowsOf}
+use Rattle.pennant.specs.Bag.{Bag, emptyBag, bagUnion, splitFirst, splitSecond, isEmpty, atLeastTwo}
+use Rattle.pennant.specs.Held.{copies}
+use Rattle.bag.specs.Nodes.{heldBy, emptySlots}
+use Rattle.bag.specs.Promises.{Pooled, Moved, uses}
+use Rattle.bag.specs.declared.Bag as bag
+use Rattle.model.specs.State as model
+use Rattle.model.specs.Table.{move, moveOf, isFree, allIdle, unitedOutputs}
+use Rattle.workers.specs.declared.Phase.{Phase}
+use Rattle.workers.specs.declared.Phase.the-variants.{Free, Holding, InHand, Marked, Named}
+use Rattle.workers.specs.declared.Worker.{Worker}
+use Rattle.workers.specs.declared.Pair.{Pair}
+use Rattle.workers.specs.Shown.{labelsOf, phaseOf, workerOf, workersOf, bagsOf}
+
+-- an event or a move that was tried: the table has something for it where its condition was met, else all is as it was
+pub record Tried {A : Type 0} (o : Option A) (old new : A) (met : Bool) : Type 0 where
+  pub happens : o ≡ cond met (some new) none
+  pub kept : met ≡ false → new ≡ old
+
+-- Rows.
+
+-- offsets and targets of a graph of n vertices within the sizes: `rowsOf offsets targets`
+pub record Ground (offsets targets : List ℕ) (n : ℕ) : Type 0 where
+  pub starts : offsets ≡ offsetsOf (rowsOf offsets targets)
+  pub ends : targets ≡ targetsOf (rowsOf offsets targets)
+  pub count : length (rowsOf offsets targets) ≡ n
+  pub below : reaches n targets ≡ false
+  pub few-vertices : n ≤ maxVertices
+  pub few-edges : length targets ≤ maxEdges
+
+-- edge e, counted through all rows, is one of vertex u
+pub record EdgeOf (offsets : List ℕ) (n u e : ℕ) : Type 0 where
+  pub vertex : u < n
+  pub first : getD offsets u 0 ≤ e
+  pub last : e < getD offsets (u + 1) 0
+
+-- a phase whose edge is one of its vertex, and whose target is a vertex
+abbrev pub Fits : List ℕ → ℕ → Phase → Type 0
+Fits offsets n Free = Unit {0}
+Fits offsets n (Holding u e) = EdgeOf offsets n u e
+Fits offsets n (InHand u e t) = EdgeOf offsets n u e × (t < n)
+Fits offsets n (Marked u e t) = EdgeOf offsets n u e × (t < n)
+Fits offsets n (Named u e t) = EdgeOf offsets n u e × (t < n)
+
+-- One worker's move.
+
+-- `hold`: at edge e of u, or free where u has no such edge
+unfoldable pub holdFrom : List ℕ → ℕ → ℕ → Phase
+holdFrom offsets u e = cond (ltb e (getD offsets (u + 1) 0)) (Holding u e) Free
+
+-- `look`: at edge e of u
+unfoldable pub lookAt : List ℕ → List ℕ → List ℕ → ℕ → ℕ → Phase
+lookAt offsets targets distances u e =
+    cond (eqb (getD distances (getD targets e 0) 0) unset) (InHand u e (getD targets e 0)) (holdFrom offsets u (e + 1))
+
+-- a phase that moves without a bag
+abbrev pub Between : Phase → Type 0
+Between Free = ⊥
+Between (Holding u e) = Unit {0}
+Between (InHand u e t) = Unit {0}
+Between (Marked u e t) = Unit {0}
+Between (Named u e t) = ⊥
+
+-- `advance`: such a move
+pub record Advanced (phase : Phase) (layer : ℕ) (offsets targets distances parents distances′ parents′ : List ℕ) (phase′ : Phase) : Type 0 where
+  pub made : (input output : Bag) → move (rowsOf offsets targets) layer (labelsOf distances parents) input output (phaseOf offsets phase)
+      ≡ some (model.workerWith input output (phaseOf offsets phase′), labelsOf distances′ parents′)
+  pub phase-fits : Fits offsets (length distances) phase′
+
+-- what the nodes and numbers of other workers keep while one worker, or some, move
+pub record Apart (crew : List Worker) (left right number left′ right′ number′ : List ℕ) (crew′ : List Worker) : Type 0 where
+  -- no node is lost, and no other is touched
+  pub moved : Moved left right (bagsOf crew) left′ right′ (bagsOf crew′)
+  -- a node that is neither theirs nor free keeps its number
+  pub kept-number : (x : ℕ) → 0 < x → uses x left right (bagsOf crew) ≡ 0 → getD number′ x 0 ≡ getD number x 0
+
+-- lists and one worker that a move with a bag takes for granted
+pub record Stocked (worker : Worker) (left right number : List ℕ) : Type 0 where
+  pub pool : Pooled left right (bagsOf (worker ∷ []))
+  pub numbered : length left ≤ length number
+
+-- `begin`: a free worker takes, if it can; so in every graph that the offsets belong to
+pub record Begun (worker : Worker) (offsets left right number left′ : List ℕ) (worker′ : Worker) (met : Bool) : Type 0 where
+  pub tried : (targets : List ℕ) (n : ℕ) → Ground offsets targets n → (layer : ℕ) (distances parents : List ℕ)
+      → Tried (moveOf (rowsOf offsets targets) layer (labelsOf distances parents) (workerOf offsets left right number worker))
+      (workerOf offsets left right number worker, labelsOf distances parents)
+      (workerOf offsets left′ right number worker′, labelsOf distances parents) met
+  pub apart : Apart (worker ∷ []) left right number left′ right number (worker′ ∷ [])
+  pub phase-fits : (targets : List ℕ) (n : ℕ) → Ground offsets targets n → Fits offsets n (worker′ .phase)
+
+-- `stow`: a worker that has named its target inserts it and passes on
+pub record Stowed (worker : Worker) (offsets left right number left′ right′ number′ : List ℕ) (worker′ : Worker) : Type 0 where
+  pub made : (targets : List ℕ) (n : ℕ) → Ground offsets targets n → Fits offsets n (worker .phase) → (layer : ℕ) (distances parents : List ℕ)
+      → moveOf (rowsOf offsets targets) layer (labelsOf distances parents) (workerOf offsets left right number worker)
+      ≡ some (workerOf offsets left′ right′ number′ worker′, labelsOf distances parents)
+  pub apart : Apart (worker ∷ []) left right number left′ right′ number′ (worker′ ∷ [])
+  pub phase-fits : (targets : List ℕ) (n : ℕ) → Ground offsets targets n → Fits offsets n (worker .phase) → Fits offsets n (worker′ .phase)
+
+-- `work`: what it takes for granted
+pub record Workable (worker : Worker) (layer : ℕ) (offsets targets distances parents left right number : List ℕ) : Type 0 where
+  pub rows : Ground offsets targets (length distances)
+  pub parents-all : length parents ≡ length distances
+  pub layer-below : layer < length distances
+  pub phase-fits : Fits offsets (length distances) (worker .phase)
+  pub stocked : Stocked worker left right number
+  -- the numbers in its input bag are vertices
+  pub input-below : (v : ℕ) → 1 ≤ copies v (heldBy left right number (worker .input .slots)) → v < length distances
+  -- a node is free for what it is about to insert
+  pub room : (u e t : ℕ) → worker .phase ≡ Named u e t → getD left 0 0 ≡ 0 → ⊥
+
+-- .. and what it promises: worker and labels are moved as the table says
+pub record Worked (worker : Worker) (layer : ℕ) (offsets targets distances parents left right number distances′ parents′ left′ right′ number′ : List ℕ) (worker′ : Worker) (met : Bool) : Type 0 where
+  pub tried : Tried (moveOf (rowsOf offsets targets) layer (labelsOf distances parents) (workerOf offsets left right number worker))
+      (workerOf offsets left right number worker, labelsOf distances parents)
+      (workerOf offsets left′ right′ number′ worker′, labelsOf distances′ parents′) met
+  pub apart : Apart (worker ∷ []) left right number left′ right′ number′ (worker′ ∷ [])
+  pub phase-fits : Fits offsets (length distances) (worker′ .phase)
+
+-- Two workers.
+
+-- the worker with another bag
+abbrev pub withInput : Worker → bag.Bag → Worker
+withInput w b = record { input = b; output = w .output; phase = w .phase }
+
+abbrev pub withOutput : Worker → bag.Bag → Worker
+withOutput w b = record { input = w .input; output = b; phase = w .phase }
+
+-- "An event whose condition isn't met changes nothing."
+abbrev pub unmetPair : Worker → Worker → Pair
+unmetPair w v = record { first = w; second = v; met = false }
+
+-- kind 1 for two workers: "w, its input bag empty, gets the second bag of a split of v's input bag, if that has at least 2 elements"
+unfoldable pub splitPair : model.Worker → model.Worker → Option (model.Worker × model.Worker)
+splitPair x y =
+    cond (isEmpty (x .input) && atLeastTwo (y .input))
+    (some (model.workerWith (splitSecond (y .input)) (x .output) (x .phase), model.workerWith (splitFirst (y .input)) (y .output) (y .phase)))
+    none
+
+-- kind 2 for two workers: "w's output bag is united into v's and left empty, if neither was empty"
+unfoldable pub unitePair : model.Worker → model.Worker → Option (model.Worker × model.Worker)
+unitePair x y =
+    cond (not (isEmpty (x .output)) && not (isEmpty (y .output)))
+    (some (model.workerWith (x .input) emptyBag (x .phase), model.workerWith (y .input) (bagUnion (y .output) (x .output)) (y .phase)))
+    none
+
+-- `split` and `unite`: w and v after it, by the rule; numbers stay where they are
+pub record Exchanged (rule : model.Worker → model.Worker → Option (model.Worker × model.Worker)) (w v : Worker) (left right left′ right′ : List ℕ) (w′ v′ : Worker) (met : Bool) : Type 0 where
+  pub tried : (offsets number : List ℕ)
+      → Tried (rule (workerOf offsets left right number w) (workerOf offsets left right number v))
+      (workerOf offsets left right number w, workerOf offsets left right number v)
+      (workerOf offsets left′ right′ number w′, workerOf offsets left′ right′ number v′) met
+  pub moved : Moved left right (bagsOf (w ∷ v ∷ [])) left′ right′ (bagsOf (w′ ∷ v′ ∷ []))
+  pub first-phase : w′ .phase ≡ w .phase
+  pub second-phase : v′ .phase ≡ v .phase
+
+-- The close.
+
+-- "all workers are free and all input bags empty", of one worker
+unfoldable pub idleTest : model.Worker → Bool
+idleTest w = isFree (w .phase) && isEmpty (w .input)
+
+-- input bags that are empty, slot by slot
+abbrev pub NoInputs : List Worker → Type 0
+NoInputs crew = (d : Worker) (w : ℕ) → w < length crew → getD crew w d .input .slots ≡ emptySlots
+
+-- `gather`: what it takes for granted
+pub record Gatherable (crew : List Worker) (left right : List ℕ) : Type 0 where
+  pub some-worker : 1 ≤ length crew
+  pub pool : Pooled left right (bagsOf crew)
+  pub idle : (offsets number : List ℕ) → allIdle (workersOf offsets left right number crew) ≡ true
+
+-- .. and promises: output bags united in order
+pub record Gathered (crew : List Worker) (left right left′ right′ slots : List ℕ) : Type 0 where
+  pub united : (offsets number : List ℕ) → heldBy left′ right′ number slots ≡ unitedOutputs (workersOf offsets left right number crew)
+  pub moved : Moved left right (bagsOf crew) left′ right′ (slots ∷ [])
+
+-- a worker with nothing to do
+abbrev pub idleOne : Worker
+idleOne = record { input = record { slots = emptySlots }; output = record { slots = emptySlots }; phase = Free }
+
+-- `opened`: all workers as a layer opens, with this bag as worker 0's input bag
+abbrev pub openedCrew : bag.Bag → List Worker
+openedCrew b = set (replicate maxWorkers idleOne) 0 (withInput idleOne b)
