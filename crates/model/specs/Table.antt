@@ -76,10 +76,14 @@ isFree (inHand u i t) = false
 isFree (marked u i t) = false
 isFree (named u i t) = false
 
+-- one worker is free and its input bag empty
+abbrev pub isIdle : Worker → Bool
+isIdle w = isFree (w .phase) && isEmpty (w .input)
+
 -- "all workers are free and all input bags empty"
 unfoldable pub allIdle : List Worker → Bool
 allIdle [] = true
-allIdle (w ∷ workers) = isFree (w .phase) && isEmpty (w .input) && allIdle workers
+allIdle (w ∷ workers) = isIdle w && allIdle workers
 
 -- "output bags 0 to P - 1 are united in that order into worker 0's input bag"
 unfoldable pub unitedOutputs : List Worker → Bag

@@ -94,7 +94,13 @@ fn play(
     number: &mut [u16],
 ) -> Answer
     requires { ⌜ Playable n m source workers (now schedule) (now offsets) (now targets) (now distances) (now parents) (now left) (now right) (now number) ⌝ }
-    ensures { λ r. ⌜ PlayedOut (model.play (rowsOf (take (n + 1) (now (offsets .entry))) (take m (now (targets .entry)))) source workers (now (schedule .entry))) (nodePlaces n workers) (now (distances .entry)) (now (parents .entry)) (now (left .entry)) (now (right .entry)) (now (number .entry)) (now (distances .exit)) (now (parents .exit)) (now (left .exit)) (now (right .exit)) (now (number .exit)) r ⌝ }
+    ensures { λ r. ⌜
+        PlayedOut (model.play (rowsOf (take (n + 1) (now (offsets .entry))) (take m (now (targets .entry)))) source workers (now (schedule .entry)))
+        (nodePlaces n workers)
+        (now (distances .entry)) (now (parents .entry)) (now (left .entry)) (now (right .entry)) (now (number .entry))
+        (now (distances .exit)) (now (parents .exit)) (now (left .exit)) (now (right .exit)) (now (number .exit))
+        r
+        ⌝ }
 {
     let places = workers * n + 1;
     let starts = n + 1;
@@ -130,8 +136,21 @@ pub fn search(
     right: &mut [u16],
     number: &mut [u16],
 ) -> Answer
-    ensures { λ r. ⌜ searchExit r (lentLists (now (offsets .exit)) (now (targets .exit)) (now (marks .exit)) (now (distances .exit)) (now (parents .exit)) (now (left .exit)) (now (right .exit)) (now (number .exit))) ≡ outcomeOfSearch (now (file .entry)) source workers (now (schedule .entry)) (lentLists (now (offsets .entry)) (now (targets .entry)) (now (marks .entry)) (now (distances .entry)) (now (parents .entry)) (now (left .entry)) (now (right .entry)) (now (number .entry))) ⌝ }
-    ensures { λ r. ⌜ Kept (now (file .entry)) source workers (now (schedule .entry)) (lentLists (now (offsets .entry)) (now (targets .entry)) (now (marks .entry)) (now (distances .entry)) (now (parents .entry)) (now (left .entry)) (now (right .entry)) (now (number .entry))) r (lentLists (now (offsets .exit)) (now (targets .exit)) (now (marks .exit)) (now (distances .exit)) (now (parents .exit)) (now (left .exit)) (now (right .exit)) (now (number .exit))) ⌝ }
+    ensures { λ r. ⌜
+        searchExit r (lentLists (now (offsets .exit)) (now (targets .exit)) (now (marks .exit)) (now (distances .exit))
+        (now (parents .exit)) (now (left .exit)) (now (right .exit)) (now (number .exit)))
+        ≡ outcomeOfSearch (now (file .entry)) source workers (now (schedule .entry))
+        (lentLists (now (offsets .entry)) (now (targets .entry)) (now (marks .entry)) (now (distances .entry))
+        (now (parents .entry)) (now (left .entry)) (now (right .entry)) (now (number .entry)))
+        ⌝ }
+    ensures { λ r. ⌜
+        Kept (now (file .entry)) source workers (now (schedule .entry))
+        (lentLists (now (offsets .entry)) (now (targets .entry)) (now (marks .entry)) (now (distances .entry))
+        (now (parents .entry)) (now (left .entry)) (now (right .entry)) (now (number .entry)))
+        r
+        (lentLists (now (offsets .exit)) (now (targets .exit)) (now (marks .exit)) (now (distances .exit))
+        (now (parents .exit)) (now (left .exit)) (now (right .exit)) (now (number .exit)))
+        ⌝ }
 {
     let lengths = Lengths {
         offsets: offsets.len(),

@@ -12,10 +12,11 @@ use Rattle.bag.specs.declared.Bag as bag
 use Rattle.bag.proofs.Family.{same-moved, pool-one, pool-two, family-two, family-held-two, split-two}
 use Rattle.bag.proofs.HeldFacts.{held-empty, held-two, held-none}
 use Rattle.model.specs.State as model
+use Rattle.model.specs.Table.{splitInputs, uniteOutputs, act}
 use Rattle.workers.specs.declared.Worker.{Worker}
 use Rattle.workers.specs.declared.Pair.{Pair}
 use Rattle.workers.specs.Shown.{workerOf, bagsOf}
-use Rattle.workers.specs.Steps.{withInput, withOutput, unmetPair, splitPair, unitePair, Exchanged}
+use Rattle.workers.specs.Steps.{withInput, withOutput, unmetPair, twoOf, splitPair, unitePair, Exchanged}
 use Rattle.workers.proofs.TriedFacts.{tried-met}
 
 -- Nothing done.
@@ -57,14 +58,14 @@ split-requires taker giver pool = pool-one (bagsOf (taker ∷ giver ∷ [])) 2 p
 module _ (taker giver : Worker) (left right : List ℕ) where
   -- the taker's input bag is not empty
   pub split-unmet-empty : isEmpty (nodesOf left right (taker .input .slots)) ≡ false → Exchanged splitPair taker giver left right left right taker giver false
-  unfolding splitPair workerOf
+  unfolding splitPair twoOf act splitInputs workerOf
   split-unmet-empty filled =
       exchange-none splitPair taker giver left right (λ offsets number. rw (held-empty left right number (taker .input .slots), filled))
 
   -- the giver's input bag has not two numbers
   pub split-unmet-two : isEmpty (nodesOf left right (taker .input .slots)) ≡ true → atLeastTwo (nodesOf left right (giver .input .slots)) ≡ false
       → Exchanged splitPair taker giver left right left right taker giver false
-  unfolding splitPair workerOf
+  unfolding splitPair twoOf act splitInputs workerOf
   split-unmet-two empty few =
       exchange-none splitPair taker giver left right
       (λ offsets number. rw (held-empty left right number (taker .input .slots), empty, held-two left right number (giver .input .slots), few))
@@ -89,7 +90,7 @@ module _ (taker giver : Worker) (left right : List ℕ) where
     split-happens : (offsets number : List ℕ)
         → splitPair (workerOf offsets left right number taker) (workerOf offsets left right number giver)
         ≡ some (workerOf offsets left′ right′ number (withInput taker second), workerOf offsets left′ right′ number (withInput giver first))
-    unfolding splitPair workerOf bagsOf
+    unfolding splitPair twoOf act splitInputs workerOf bagsOf
     split-happens offsets number =
         let all = all-held number in
         let taker-kept : heldBy left′ right′ number (taker .output .slots) ≡ heldBy left right number (taker .output .slots) = cc in
@@ -128,14 +129,14 @@ unite-requires giver taker pool =
 module _ (giver taker : Worker) (left right : List ℕ) where
   -- the giver's output bag is empty
   pub unite-unmet-giver : isEmpty (nodesOf left right (giver .output .slots)) ≡ true → Exchanged unitePair giver taker left right left right giver taker false
-  unfolding unitePair workerOf
+  unfolding unitePair twoOf act uniteOutputs workerOf
   unite-unmet-giver empty =
       exchange-none unitePair giver taker left right (λ offsets number. rw (held-empty left right number (giver .output .slots), empty))
 
   -- the taker's output bag is empty
   pub unite-unmet-taker : isEmpty (nodesOf left right (giver .output .slots)) ≡ false → isEmpty (nodesOf left right (taker .output .slots)) ≡ true
       → Exchanged unitePair giver taker left right left right giver taker false
-  unfolding unitePair workerOf
+  unfolding unitePair twoOf act uniteOutputs workerOf
   unite-unmet-taker filled empty =
       exchange-none unitePair giver taker left right
       (λ offsets number. rw (held-empty left right number (giver .output .slots), filled, held-empty left right number (taker .output .slots), empty))
@@ -160,7 +161,7 @@ module _ (giver taker : Worker) (left right : List ℕ) where
     unite-happens : (offsets number : List ℕ)
         → unitePair (workerOf offsets left right number giver) (workerOf offsets left right number taker)
         ≡ some (workerOf offsets left′ right′ number (withOutput giver cleared), workerOf offsets left′ right′ number (withOutput taker united))
-    unfolding unitePair workerOf bagsOf
+    unfolding unitePair twoOf act uniteOutputs workerOf bagsOf
     unite-happens offsets number =
         let all = united-held number in
         let giver-kept : heldBy left′ right′ number (giver .input .slots) ≡ heldBy left right number (giver .input .slots) = cc in

@@ -14,20 +14,20 @@ use Rattle.lists.proofs.Parts.{getD-any}
 use Rattle.pennant.specs.Bag.{slotCount, isEmpty}
 use Rattle.bag.specs.Nodes.{nodesOf, heldBy, emptySlots}
 use Rattle.bag.proofs.HeldFacts.{held-empty, bare-slots}
-use Rattle.model.specs.Table.{isFree, allIdle}
+use Rattle.model.specs.Table.{isFree, isIdle, allIdle}
 use Rattle.workers.specs.declared.Phase.{Phase}
 use Rattle.workers.specs.declared.Phase.the-variants.{Free, Holding, InHand, Marked, Named}
 use Rattle.workers.specs.declared.Worker.{Worker}
 use Rattle.workers.specs.Shown.{phaseOf, workerOf, workersOf}
-use Rattle.workers.specs.Steps.{idleTest, NoInputs}
+use Rattle.workers.specs.Steps.{NoInputs}
 
 -- One worker.
 
 module _ (worker : Worker) {r : Bool} (long : length (worker .input .slots) ≡ slotCount)
     (told : (left right : List ℕ) → r ≡ isEmpty (nodesOf left right (worker .input .slots))) where
   -- a free one is idle if its input bag is empty
-  pub idle-free : worker .phase ≡ Free → (offsets left right number : List ℕ) → r ≡ idleTest (workerOf offsets left right number worker)
-  unfolding idleTest workerOf isFree phaseOf
+  pub idle-free : worker .phase ≡ Free → (offsets left right number : List ℕ) → r ≡ isIdle (workerOf offsets left right number worker)
+  unfolding workerOf isFree phaseOf
   idle-free free offsets left right number = rw free (told left right ∙ sym (held-empty left right number (worker .input .slots)))
 
   -- and then nothing is in its slots
@@ -36,8 +36,8 @@ module _ (worker : Worker) {r : Bool} (long : length (worker .input .slots) ≡ 
 
 -- one that is not free
 pub busy-test : (tag : Phase → ℕ) → tag Free ≡ 0 → (worker : Worker) → OneOf (1 ∷ 2 ∷ 3 ∷ 4 ∷ []) (tag (worker .phase)) → (offsets left right number : List ℕ)
-    → false ≡ idleTest (workerOf offsets left right number worker)
-unfolding idleTest workerOf isFree phaseOf
+    → false ≡ isIdle (workerOf offsets left right number worker)
+unfolding workerOf isFree phaseOf
 busy-test tag none worker busy offsets left right number =
     ap (λ (b : Bool). b && isEmpty (heldBy left right number (worker .input .slots))) (not-free (worker .phase) busy)
   where
@@ -62,14 +62,14 @@ module _ (crew : List Worker) (P w : ℕ) (d : Worker) (there : P ≤ length cre
   next-worker = rw (getD-take P crew w d below) at (drop-cons (take P crew) w d (rw (length-take-le P crew there) below))
 
   -- a worker that is not idle
-  pub idle-stop : ((offsets left right number : List ℕ) → false ≡ idleTest (workerOf offsets left right number (getD crew w d)))
+  pub idle-stop : ((offsets left right number : List ℕ) → false ≡ isIdle (workerOf offsets left right number (getD crew w d)))
       → (offsets left right number : List ℕ) → false ≡ allIdle (workersOf offsets left right number (take P crew))
-  unfolding allIdle idleTest
+  unfolding allIdle
   idle-stop busy offsets left right number = rw (before offsets left right number, next-worker, ← busy offsets left right number) refl
 
   -- a worker that is
-  pub idle-pass : ((offsets left right number : List ℕ) → true ≡ idleTest (workerOf offsets left right number (getD crew w d))) → IdleFrom crew P (w + 1)
-  unfolding allIdle idleTest
+  pub idle-pass : ((offsets left right number : List ℕ) → true ≡ isIdle (workerOf offsets left right number (getD crew w d))) → IdleFrom crew P (w + 1)
+  unfolding allIdle
   idle-pass idle offsets left right number = rw (add-one, before offsets left right number, next-worker, ← idle offsets left right number) refl
 
 -- the input bags before w are empty

@@ -1,6 +1,7 @@
 -- What the table has for a part of the state, put into the whole state, and a run's count after an attempt.
 use mathlib.Core.Path.{_≡_, refl, sym, ap, _∙_}
 use mathlib.Core.Bool.{Bool, true, false, cond, not, _&&_, true≢false}
+use mathlib.Core.List.{[], _∷_}
 use mathlib.Core.Option.{Option, none, some}
 use Prim.Native.Nat.{ℕ, suc, _+_}
 use native.Mathlib.Omega.{arith}
@@ -12,7 +13,7 @@ use Rattle.model.specs.Paths.{Labels}
 use Rattle.model.specs.State as model
 use Rattle.model.specs.Table.{movedState, afterMove, replaceWorkers, splitInputs, uniteOutputs, act}
 use Rattle.model.specs.Play.{Run, tally}
-use Rattle.workers.specs.Steps.{Tried, splitPair, unitePair}
+use Rattle.workers.specs.Steps.{Tried, twoState, twoOf, splitPair, unitePair}
 
 -- what happened was tried
 pub tried-met : {A : Type 0} {o : Option A} {old new : A} → o ≡ some new → Tried o old new true
@@ -45,10 +46,12 @@ move-put s w (some m) = refl
 abbrev pub pairState : model.State → ℕ → ℕ → model.Worker × model.Worker → model.State
 pairState s w v p = replaceWorkers s (set (set (s .workers) v (p .1)) w (p .0))
 
--- where a condition is met, in a part or in the whole
-put-cond : {A : Type 0} (into : A → model.State) (x : A) (b : Bool) → cond b (some (into x)) none ≡ putInto into (cond b (some x) none)
-put-cond into x true = refl
-put-cond into x false = refl
+-- where a condition is met, with two workers alone or with all
+put-two : (into : model.Worker × model.Worker → model.State) (t : model.State) (b : Bool)
+    → cond b (some (into (model.workerAt (t .workers) 0, model.workerAt (t .workers) 1))) none ≡ putInto into (twoOf (cond b (some t) none))
+unfolding twoOf
+put-two into t true = refl
+put-two into t false = refl
 
 module _ (g : Graph) (s : model.State) (w v : ℕ) where
   -- w and v of the state
@@ -61,12 +64,14 @@ module _ (g : Graph) (s : model.State) (w v : ℕ) where
   -- a split by the rule for two workers
   pub split-put : act g s (Split w v) ≡ putInto (pairState s w v) (splitPair first second)
   unfolding act splitInputs splitPair
-  split-put = put-cond (pairState s w v) _ (isEmpty (first .input) && atLeastTwo (second .input))
+  split-put =
+      put-two (pairState s w v) (replaceWorkers (twoState first second) (splitInputs (first ∷ second ∷ []) 0 1)) (isEmpty (first .input) && atLeastTwo (second .input))
 
   -- a union by the rule for two workers
   pub unite-put : act g s (Unite w v) ≡ putInto (pairState s w v) (unitePair first second)
   unfolding act uniteOutputs unitePair
-  unite-put = put-cond (pairState s w v) _ (not (isEmpty (first .output)) && not (isEmpty (second .output)))
+  unite-put =
+      put-two (pairState s w v) (replaceWorkers (twoState first second) (uniteOutputs (first ∷ second ∷ []) 0 1)) (not (isEmpty (first .output)) && not (isEmpty (second .output)))
 
 -- a run after an attempt: one more byte used, and one more effective if its condition was met
 pub tally-tried : {o : Option model.State} {s t : model.State} {met : Bool} (used effective : ℕ) → Tried o s t met

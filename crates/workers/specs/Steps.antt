@@ -1,22 +1,23 @@
 -- What the steps of the search take for granted and what they promise: one worker's move, two workers' exchange, the close. A prime marks what
 -- stands there afterwards. No outside contract cites these.
 use mathlib.Core.Path.{_≡_}
-use mathlib.Core.Bool.{Bool, true, false, cond, not, _&&_}
+use mathlib.Core.Bool.{Bool, true, false, cond}
 use mathlib.Core.List.{List, [], _∷_}
 use mathlib.Core.Option.{Option, none, some}
-use Prim.Native.Nat.{ℕ, suc, _+_, _≤_, _<_}
+use Prim.Native.Nat.{ℕ, _+_, _≤_, _<_}
 use lib.Dec.{eqb, ltb}
 use lib.ListN.{length, getD, replicate, set}
 use Rattle.numbers.specs.Numbers.{maxVertices, maxEdges, maxWorkers, unset}
 use Rattle.lists.specs.Lists.{reaches}
 use Rattle.graph.specs.Graph.{offsetsOf, targetsOf, rowsOf}
-use Rattle.pennant.specs.Bag.{Bag, emptyBag, bagUnion, splitFirst, splitSecond, isEmpty, atLeastTwo}
+use Rattle.pennant.specs.Bag.{Bag}
 use Rattle.pennant.specs.Held.{copies}
 use Rattle.bag.specs.Nodes.{heldBy, emptySlots}
 use Rattle.bag.specs.Promises.{Pooled, Moved, uses}
 use Rattle.bag.specs.declared.Bag as bag
+use Rattle.schedule.specs.declared.Event.the-variants.{Split, Unite}
 use Rattle.model.specs.State as model
-use Rattle.model.specs.Table.{move, moveOf, isFree, allIdle, unitedOutputs}
+use Rattle.model.specs.Table.{move, moveOf, allIdle, unitedOutputs, act}
 use Rattle.workers.specs.declared.Phase.{Phase}
 use Rattle.workers.specs.declared.Phase.the-variants.{Free, Holding, InHand, Marked, Named}
 use Rattle.workers.specs.declared.Worker.{Worker}
@@ -140,19 +141,22 @@ withOutput w b = record { input = w .input; output = b; phase = w .phase }
 abbrev pub unmetPair : Worker → Worker → Pair
 unmetPair w v = record { first = w; second = v; met = false }
 
--- kind 1 for two workers: "w, its input bag empty, gets the second bag of a split of v's input bag, if that has at least 2 elements"
-unfoldable pub splitPair : model.Worker → model.Worker → Option (model.Worker × model.Worker)
-splitPair x y =
-    cond (isEmpty (x .input) && atLeastTwo (y .input))
-    (some (model.workerWith (splitSecond (y .input)) (x .output) (x .phase), model.workerWith (splitFirst (y .input)) (y .output) (y .phase)))
-    none
+-- a state of two workers alone
+abbrev pub twoState : model.Worker → model.Worker → model.State
+twoState x y = record { labels = record { distances = []; parents = [] }; workers = x ∷ y ∷ []; layer = 0; finished = false }
 
--- kind 2 for two workers: "w's output bag is united into v's and left empty, if neither was empty"
+-- the two workers of such a state
+unfoldable pub twoOf : Option model.State → Option (model.Worker × model.Worker)
+twoOf none = none
+twoOf (some s) = some (model.workerAt (s .workers) 0, model.workerAt (s .workers) 1)
+
+-- what the event table makes of two workers: kind 1
+unfoldable pub splitPair : model.Worker → model.Worker → Option (model.Worker × model.Worker)
+splitPair x y = twoOf (act [] (twoState x y) (Split 0 1))
+
+-- and kind 2
 unfoldable pub unitePair : model.Worker → model.Worker → Option (model.Worker × model.Worker)
-unitePair x y =
-    cond (not (isEmpty (x .output)) && not (isEmpty (y .output)))
-    (some (model.workerWith (x .input) emptyBag (x .phase), model.workerWith (y .input) (bagUnion (y .output) (x .output)) (y .phase)))
-    none
+unitePair x y = twoOf (act [] (twoState x y) (Unite 0 1))
 
 -- `split` and `unite`: w and v after it, by the rule; numbers stay where they are
 pub record Exchanged (rule : model.Worker → model.Worker → Option (model.Worker × model.Worker)) (w v : Worker) (left right left′ right′ : List ℕ) (w′ v′ : Worker) (met : Bool) : Type 0 where
@@ -165,10 +169,6 @@ pub record Exchanged (rule : model.Worker → model.Worker → Option (model.Wor
   pub second-phase : v′ .phase ≡ v .phase
 
 -- The close.
-
--- "all workers are free and all input bags empty", of one worker
-unfoldable pub idleTest : model.Worker → Bool
-idleTest w = isFree (w .phase) && isEmpty (w .input)
 
 -- input bags that are empty, slot by slot
 abbrev pub NoInputs : List Worker → Type 0

@@ -7,9 +7,9 @@ ghost use lib.ListN.{take};
 ghost use Rattle.numbers.specs.Numbers.{maxWorkers};
 ghost use Rattle.bag.specs.Nodes.{emptySlots};
 ghost use Rattle.bag.specs.Promises.{Pooled};
-ghost use Rattle.model.specs.Table.{allIdle};
+ghost use Rattle.model.specs.Table.{isIdle, allIdle};
 ghost use Rattle.workers.specs.Shown.{workerOf, workersOf, bagsOf};
-ghost use Rattle.workers.specs.Steps.{withInput, withOutput, unmetPair, splitPair, unitePair, Exchanged, idleTest, NoInputs, Gatherable, Gathered, openedCrew};
+ghost use Rattle.workers.specs.Steps.{withInput, withOutput, unmetPair, splitPair, unitePair, Exchanged, NoInputs, Gatherable, Gathered, openedCrew};
 use crate::Pair;
 use crate::Phase;
 use crate::Worker;
@@ -99,7 +99,7 @@ fn unmet(first: Worker, second: Worker) -> Pair
 
 // Whether the worker is free and its input bag empty.
 fn is_idle(worker: Worker) -> bool
-    ensures { λ r. ⌜ ((offsets left right number : List ℕ) → r ≡ idleTest (workerOf offsets left right number worker)) ⌝ }
+    ensures { λ r. ⌜ ((offsets left right number : List ℕ) → r ≡ isIdle (workerOf offsets left right number worker)) ⌝ }
     ensures { λ r. ⌜ (r ≡ true → worker .input .slots ≡ emptySlots) ⌝ }
 {
     let phase = worker.phase;
@@ -133,8 +133,7 @@ pub fn gather(crew: [Worker; 8], workers: usize, left: &mut [u16], right: &mut [
     ensures { λ r. ⌜ Gathered (take workers crew) (now (left .entry)) (now (right .entry)) (now (left .exit)) (now (right .exit)) (r .slots) ⌝ }
 {
     let first = crew[0];
-    let start = first.input;
-    let mut bag = start;
+    let mut bag = first.input;
     let mut next = 0;
     while next < workers {
         let worker = crew[next];

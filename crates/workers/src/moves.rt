@@ -162,7 +162,12 @@ pub fn work(
     number: &mut [u16],
 ) -> Turned
     requires { ⌜ Workable worker layer (now offsets) (now targets) (now distances) (now parents) (now left) (now right) (now number) ⌝ }
-    ensures { λ r. ⌜ Worked worker layer (now (offsets .entry)) (now (targets .entry)) (now (distances .entry)) (now (parents .entry)) (now (left .entry)) (now (right .entry)) (now (number .entry)) (now (distances .exit)) (now (parents .exit)) (now (left .exit)) (now (right .exit)) (now (number .exit)) (r .worker) (r .met) ⌝ }
+    ensures { λ r. ⌜
+        Worked worker layer (now (offsets .entry)) (now (targets .entry))
+        (now (distances .entry)) (now (parents .entry)) (now (left .entry)) (now (right .entry)) (now (number .entry))
+        (now (distances .exit)) (now (parents .exit)) (now (left .exit)) (now (right .exit)) (now (number .exit))
+        (r .worker) (r .met)
+        ⌝ }
 {
     let phase = worker.phase;
     if let Phase::Free = phase {
