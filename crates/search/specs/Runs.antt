@@ -20,7 +20,7 @@ use Rattle.search.specs.declared.Answer.{Answer}
 use Rattle.workers.specs.Shown.{labelsOf}
 use Rattle.workers.specs.Steps.{Ground}
 
--- lists for n vertices and P workers: all of them, and left of exactly its need
+-- as many parents as distances, no more than n may be, and node lists for P workers, left of exactly its need
 pub record Sized (P : ℕ) (distances parents left right number : List ℕ) : Type 0 where
   pub few-vertices : length distances ≤ maxVertices
   pub some-worker : 1 ≤ P
@@ -52,20 +52,20 @@ answerOf number used effective layer = record { number = number; used = used; ef
 abbrev pub refusal : ℕ → Answer
 refusal number = answerOf number 0 0 0
 
--- the answer of the model's run
+-- an answer that is the model's run's
 pub record Told (r : Run) (answer : Answer) : Type 0 where
   pub number : answer .number ≡ cond (r .state .finished) success unfinished
   pub used : answer .used ≡ r .used
   pub effective : answer .effective ≡ r .effective
   pub layer : answer .layer ≡ r .state .layer
 
--- .. and promises: answer and labels of the model's run
+-- what `run` promises: answer and labels of the model's run
 pub record Ran (r : Run) (distances′ parents′ : List ℕ) (answer : Answer) : Type 0 where
   pub told : Told r answer
   pub distances : distances′ ≡ map wordOf (r .state .labels .distances)
   pub parents : parents′ ≡ map wordOf (r .state .labels .parents)
 
--- `play`: the same on the first places of longer lists
+-- `play`: what it takes for granted, the same of the first places of longer lists
 pub record Playable (n m source P : ℕ) (schedule offsets targets distances parents left right number : List ℕ) : Type 0 where
   pub rows : Ground (take (n + 1) offsets) (take m targets) n
   pub accepted : Accepted (rowsOf (take (n + 1) offsets) (take m targets)) source P schedule
@@ -78,8 +78,9 @@ pub record Playable (n m source P : ℕ) (schedule offsets targets distances par
   pub right-there : nodePlaces n P ≤ length right
   pub number-there : nodePlaces n P ≤ length number
 
--- .. the labels in the first places, the nodes' first places 0, the others as they were
-pub record PlayedOut (r : Run) (places : ℕ) (distances parents left right number distances′ parents′ left′ right′ number′ : List ℕ) (answer : Answer) : Type 0 where
+-- what `play` promises: the labels in the first places, the nodes' first places 0, the others as they were
+pub record PlayedOut (r : Run) (places : ℕ) (distances parents left right number distances′ parents′ left′ right′ number′ : List ℕ)
+    (answer : Answer) : Type 0 where
   pub told : Told r answer
   pub labelled : distances′ ≡ overlay (map wordOf (r .state .labels .distances)) distances
   pub named : parents′ ≡ overlay (map wordOf (r .state .labels .parents)) parents

@@ -120,8 +120,9 @@ pub record Workable (worker : Worker) (layer : ℕ) (offsets targets distances p
   -- a node is free for what it is about to insert
   pub room : (u e t : ℕ) → worker .phase ≡ Named u e t → getD left 0 0 ≡ 0 → ⊥
 
--- .. and what it promises: worker and labels are moved as the table says
-pub record Worked (worker : Worker) (layer : ℕ) (offsets targets distances parents left right number distances′ parents′ left′ right′ number′ : List ℕ) (worker′ : Worker) (met : Bool) : Type 0 where
+-- what `work` promises: worker and labels are moved as the table says
+pub record Worked (worker : Worker) (layer : ℕ)
+    (offsets targets distances parents left right number distances′ parents′ left′ right′ number′ : List ℕ) (worker′ : Worker) (met : Bool) : Type 0 where
   pub tried : Tried (moveOf (rowsOf offsets targets) layer (labelsOf distances parents) (workerOf offsets left right number worker))
       (workerOf offsets left right number worker, labelsOf distances parents)
       (workerOf offsets left′ right′ number′ worker′, labelsOf distances′ parents′) met
@@ -159,7 +160,8 @@ unfoldable pub unitePair : model.Worker → model.Worker → Option (model.Worke
 unitePair x y = twoOf (act [] (twoState x y) (Unite 0 1))
 
 -- `split` and `unite`: w and v after it, by the rule; numbers stay where they are
-pub record Exchanged (rule : model.Worker → model.Worker → Option (model.Worker × model.Worker)) (w v : Worker) (left right left′ right′ : List ℕ) (w′ v′ : Worker) (met : Bool) : Type 0 where
+pub record Exchanged (rule : model.Worker → model.Worker → Option (model.Worker × model.Worker)) (w v : Worker) (left right left′ right′ : List ℕ)
+    (w′ v′ : Worker) (met : Bool) : Type 0 where
   pub tried : (offsets number : List ℕ)
       → Tried (rule (workerOf offsets left right number w) (workerOf offsets left right number v))
       (workerOf offsets left right number w, workerOf offsets left right number v)
@@ -180,7 +182,7 @@ pub record Gatherable (crew : List Worker) (left right : List ℕ) : Type 0 wher
   pub pool : Pooled left right (bagsOf crew)
   pub idle : (offsets number : List ℕ) → allIdle (workersOf offsets left right number crew) ≡ true
 
--- .. and promises: output bags united in order
+-- what `gather` promises: output bags united in order
 pub record Gathered (crew : List Worker) (left right left′ right′ slots : List ℕ) : Type 0 where
   pub united : (offsets number : List ℕ) → heldBy left′ right′ number slots ≡ unitedOutputs (workersOf offsets left right number crew)
   pub moved : Moved left right (bagsOf crew) left′ right′ (slots ∷ [])
