@@ -316,7 +316,10 @@ gather-requires c κs =
     let told = c .before .before .before .before in
     let at = close-turn told .playing in
     let idle = c .before .before .if1 .taken in
-    (at .ready .accepted .few-workers, gather-able at (λ offsets number. sym (c .before .before .before .all-idle .ensures .0 offsets _ _ number) ∙ idle))
+    let few = at .ready .accepted .few-workers in (
+      omega (arith, few),
+      gather-able at (λ offsets number. sym (c .before .before .before .all-idle .ensures .0 offsets _ _ number) ∙ idle),
+    )
 
 add-next : tie.Need-add-next Inv-loop μ-loop
 add-next c = record { fits = layer-fits (close-turn (gather-told (gather-call c)) .playing) }
