@@ -1,13 +1,14 @@
--- What the inner steps of reading take for granted of each other: a header that passed, then a scan that passed.
+-- What the inner steps of reading take for granted of each other: a header that passed, then a scan that passed; and what they leave to the steps
+-- after them: the rows of a graph.
 use Prim.Native.Nat.{ℕ, _≤_}
 use mathlib.Core.Path.{_≡_}
-use mathlib.Core.Bool.{cond}
+use mathlib.Core.Bool.{false, cond}
 use mathlib.Core.List.{List}
 use lib.ListN.{length, replicate}
 use Rattle.numbers.specs.Numbers.{maxVertices, maxEdges, success}
 use Rattle.numbers.specs.Refusals.{first}
-use Rattle.lists.specs.Lists.{overlay}
-use Rattle.graph.specs.Graph.{offsetsOf, targetsOf}
+use Rattle.lists.specs.Lists.{overlay, reaches}
+use Rattle.graph.specs.Graph.{offsetsOf, targetsOf, rowsOf}
 use Rattle.graph.specs.File.{vertexCount, edgeCount, fileLength, graphOf}
 use Rattle.graph.specs.Read.{headerRefusals, scanRefusals, chainRefusals, answerWith, writesRows}
 use Rattle.graph.specs.declared.ReadAnswer.{ReadAnswer}
@@ -41,3 +42,12 @@ pub record Unchained (file : List ℕ) (m number : ℕ) (offsets₀ targets₀ m
   pub starts : offsets ≡ cond (writesRows number) (overlay (offsetsOf (graphOf file)) offsets₀) offsets₀
   pub ends : targets ≡ cond (writesRows number) (overlay (targetsOf (graphOf file)) targets₀) targets₀
   pub cleared : marks ≡ overlay (replicate m 0) marks₀
+
+-- offsets and targets of a graph of n vertices within the sizes: `rowsOf offsets targets`
+pub record Ground (offsets targets : List ℕ) (n : ℕ) : Type 0 where
+  pub starts : offsets ≡ offsetsOf (rowsOf offsets targets)
+  pub ends : targets ≡ targetsOf (rowsOf offsets targets)
+  pub count : length (rowsOf offsets targets) ≡ n
+  pub below : reaches n targets ≡ false
+  pub few-vertices : n ≤ maxVertices
+  pub few-edges : length targets ≤ maxEdges

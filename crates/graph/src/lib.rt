@@ -1,11 +1,12 @@
 // The adjacency file: its reader, its writer and the view of one vertex's edges.
 //
 // The outside calls are the four functions that this file exports; they assume nothing. `steps` has
-// the steps of reading, which the search and the checker share.
+// the steps of reading, which the search and the checker share, and `words` the access to words and
+// list elements.
 mod reader;
 pub mod steps;
 mod view;
-mod words;
+pub mod words;
 mod writer;
 
 pub use reader::read;

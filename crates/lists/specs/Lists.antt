@@ -45,6 +45,11 @@ unfoldable pub fallsFrom : ℕ → List ℕ → Bool
 fallsFrom x [] = false
 fallsFrom x (y ∷ ys) = ltb y x || fallsFrom y ys
 
+-- whether f holds of some element of the list
+unfoldable pub anyOf : {A : Type 0} → (A → Bool) → List A → Bool
+anyOf f [] = false
+anyOf f (x ∷ xs) = f x || anyOf f xs
+
 -- the sum of f over the list
 unfoldable pub sumOf : {A : Type 0} → (A → ℕ) → List A → ℕ
 sumOf f [] = 0

@@ -16,7 +16,8 @@ use Rattle.schedule.specs.Check.{anyStray, scheduleRefusals}
 use Rattle.model.specs.State.{openingLabels, openingState}
 use Rattle.model.specs.Table.{holdAt, look, mark, name, move, afterMove, splitInputs, uniteOutputs, isFree, allIdle, unitedOutputs, closed, act}
 use Rattle.model.specs.Play.{tally, step, playFrom, play}
-use Rattle.model.specs.Call.{lengthsShort, earlyRefusals, runOf, inputRefusals, searchRefusals, searchNumber, plays, answerBy, wordOf, sweepsMarks, lentAfter, outcomeOfSearch}
+use Rattle.model.specs.Call.{lengthsShort, earlyRefusals, runOf, inputRefusals, searchRefusals, searchNumber, plays, answerBy, sweepsMarks, lentAfter, outcomeOfSearch}
+use Rattle.model.specs.Words.{wordOf}
 use Rattle.model.specs.Bench.{Case, Expected, lentFor, answersOf, outcomeOfCase, benchTable}
 
 -- each outcome is the expected one

@@ -21,7 +21,8 @@ use Rattle.graph.proofs.WellFormed.{header-sized, scan-bounded, chains-partitio
 use Rattle.schedule.specs.Check.{scheduleRefusals}
 use Rattle.schedule.proofs.Schedules.{positive-schedule, schedule-passed}
 use Rattle.model.specs.Play.{play, rounds, eventBound}
-use Rattle.model.specs.Call.{Lent, lengthsOf, lengthsShort, earlyRefusals, runOf, inputRefusals, searchRefusals, searchNumber, plays, answerBy, wordOf, sweepsMarks, lentAfter}
+use Rattle.model.specs.Call.{Lent, lengthsOf, lengthsShort, earlyRefusals, runOf, inputRefusals, searchRefusals, searchNumber, plays, answerBy, sweepsMarks, lentAfter}
+use Rattle.model.specs.Words.{wordOf}
 use Rattle.model.specs.Call.{outcomeOfSearch}
 use Rattle.model.specs.Demand.{Accepted, Demand}
 use Rattle.model.proofs.Theorem.{demand-holds}

@@ -5,6 +5,7 @@ pub mod Alone
 pub mod Sound
 pub mod Walks
 pub mod LabelFacts
+pub mod WordFacts
 pub mod Certificate
 pub mod Workers
 pub mod MovingLabels

@@ -2,11 +2,10 @@
 -- refusals is `searchRefusals`.
 use mathlib.Core.Bool.{Bool, cond, not, _||_}
 use mathlib.Core.List.{List, [], _∷_, _++_, map}
-use mathlib.Core.Option.{Option, none, some}
 use Prim.Native.Nat.{ℕ, _+_, _*_}
 use lib.Dec.{leb, ltb}
 use lib.ListN.{length, replicate}
-use Rattle.numbers.specs.Numbers.{unset, success, badSource, shortList, unfinished}
+use Rattle.numbers.specs.Numbers.{success, badSource, shortList, unfinished}
 use Rattle.numbers.specs.Refusals.{Refusal, _gives_, first}
 use Rattle.lists.specs.Lists.{overlay, elem}
 use Rattle.graph.specs.Graph.{offsetsOf, targetsOf}
@@ -14,6 +13,7 @@ use Rattle.graph.specs.File.{vertexCount, edgeCount, graphOf}
 use Rattle.graph.specs.Read.{headerRefusals, scanRefusals, chainRefusals, rowsShort, clearsMarks}
 use Rattle.schedule.specs.Check.{scheduleRefusals}
 use Rattle.model.specs.Play.{Run, play}
+use Rattle.model.specs.Words.{wordOf}
 
 -- the lists that the caller lends
 pub record Lent : Type 0 where
@@ -107,11 +107,6 @@ unfoldable pub answerBy : ℕ → Run → Answer
 answerBy number r = cond (plays number)
     (record { number = number; used = r .used; effective = r .effective; layer = r .state .layer })
     (record { number = number; used = 0; effective = 0; layer = 0 })
-
--- "65,535 means unset"
-unfoldable pub wordOf : Option ℕ → ℕ
-wordOf none = unset
-wordOf (some x) = x
 
 -- "with 5 and 6 the first m marks become 0. Every call that gets past 6 leaves the first m marks 0"
 unfoldable pub sweepsMarks : ℕ → Bool

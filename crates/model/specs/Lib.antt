@@ -1,5 +1,6 @@
 -- Distances of a graph, the event table and its play, the link-by-link run, the whole call's outcome, and what demand 3 claims.
 pub mod Paths
+pub mod Words
 pub mod State
 pub mod Table
 pub mod Play

@@ -61,6 +61,10 @@ badWorkers = 8
 abbrev pub badSchedule : ℕ
 badSchedule = 9
 
+-- "10: the checker finds the result wrong"
+abbrev pub badResult : ℕ
+badResult = 10
+
 -- "11: rows malformed"
 abbrev pub badRows : ℕ
 badRows = 11

@@ -34,6 +34,8 @@ pub const BAD_WORKERS: usize = 8;
 
 pub const BAD_SCHEDULE: usize = 9;
 
+pub const BAD_RESULT: usize = 10;
+
 pub const BAD_ROWS: usize = 11;
 
 // "Turned down by the state".

@@ -19,15 +19,15 @@ use Rattle.schedule.specs.declared.Event.the-variants.{Close}
 use Rattle.model.specs.State as model
 use Rattle.model.specs.Table.{allIdle, unitedOutputs, handedIn, raisedState, endedState, closed, act}
 use Rattle.model.specs.Play.{Run, playFrom, openingRun, play}
-use Rattle.model.specs.Call.{wordOf}
+use Rattle.model.specs.Words.{wordOf, labelsOf}
 use Rattle.model.proofs.Workers.{idle-each}
 use Rattle.model.proofs.Plays.{play-append, play-finished}
 use Rattle.workers.specs.declared.Worker.{Worker}
 use Rattle.search.specs.declared.Answer.{Answer}
-use Rattle.workers.specs.Shown.{labelsOf, workerOf, workersOf, stateOf, bagsOf}
+use Rattle.workers.specs.Shown.{workerOf, workersOf, stateOf, bagsOf}
 use Rattle.workers.specs.Steps.{Fits, NoInputs, Gatherable, Gathered, idleOne, openedCrew}
 use Rattle.search.specs.Runs.{answerOf, Ran}
-use Rattle.workers.proofs.WordFacts.{words-again}
+use Rattle.model.proofs.WordFacts.{words-again}
 use Rattle.workers.proofs.CrewFacts.{opened-workers, opened-whole, opened-free}
 use Rattle.workers.proofs.TriedFacts.{tried-met}
 use Rattle.search.proofs.PlayingFacts.{SameLengths, Playing, Turn, graph, now-state, crew-taken, worker-here, worker-shown, placed}

@@ -19,9 +19,9 @@ use Rattle.bag.proofs.Free.{free-some, free-chained, free-count, pool-free, emp
 use Rattle.bag.proofs.HeldFacts.{held-none}
 use Rattle.model.specs.State.{openingLabels}
 use Rattle.model.specs.Call.{nodePlaces}
-use Rattle.workers.specs.Shown.{optionOf, labelsOf}
+use Rattle.model.specs.Words.{optionOf, labelsOf}
 use Rattle.search.specs.Runs.{Sized, FirstLayer}
-use Rattle.workers.proofs.WordFacts.{word-set, word-unset}
+use Rattle.model.proofs.WordFacts.{word-set, word-unset}
 
 -- The labels.
 

@@ -22,7 +22,8 @@ use Rattle.model.specs.Demand.{held}
 use Rattle.workers.specs.declared.Phase.{Phase}
 use Rattle.workers.specs.declared.Phase.the-variants.{Named}
 use Rattle.workers.specs.declared.Worker.{Worker}
-use Rattle.workers.specs.Shown.{labelsOf, phaseOf, workerOf, workersOf, stateOf, bagsOf}
+use Rattle.model.specs.Words.{labelsOf}
+use Rattle.workers.specs.Shown.{phaseOf, workerOf, workersOf, stateOf, bagsOf}
 use Rattle.workers.specs.Steps.{Tried, Fits, Apart, Workable, Worked}
 use Rattle.workers.proofs.CrewFacts.{pool-worker, one-moved, one-workers, held-crew}
 use Rattle.workers.proofs.TriedFacts.{putInto, put-tried, move-put}

@@ -5,19 +5,19 @@ use mathlib.Core.Bool.{true, false}
 use mathlib.Core.List.{List}
 use mathlib.Core.Option.{some}
 use Prim.Native.Nat.{ℕ, _≤_, _<_}
-use lib.ListN.{length, take}
+use lib.ListN.{length}
 use Rattle.numbers.specs.Numbers.{success, unfinished}
 use Rattle.numbers.specs.Refusals.{first}
 use Rattle.lists.specs.Lists.{numbersFrom, sumOf}
 use Rattle.graph.specs.File.{vertexCount, graphOf}
-use Rattle.model.specs.Paths.{Labels, Distance, distanceOf, RightResult}
+use Rattle.model.specs.Paths.{Distance, distanceOf, RightResult}
 use Rattle.model.specs.State.{openingLabels}
 use Rattle.model.specs.Play.{play, metAt, rounds, eventBound}
 use Rattle.model.specs.Serial.{Serial}
 use Rattle.model.specs.Demand.{Demand, Finisher}
 use Rattle.model.specs.Call as call
+use Rattle.model.specs.Words.{labelsIn}
 use Rattle.search.specs.declared.Answer.{Answer}
-use Rattle.workers.specs.Shown.{labelsOf}
 
 -- the lists that the caller lends
 abbrev pub lentLists : List ℕ → List ℕ → List ℕ → List ℕ → List ℕ → List ℕ → List ℕ → List ℕ → call.Lent
@@ -35,10 +35,6 @@ lentLists offsets targets marks distances parents left right number = record {
 -- what the call answered, and the lists at exit
 abbrev pub searchExit : Answer → call.Lent → call.Outcome
 searchExit r after = record { answer = record { number = r .number; used = r .used; effective = r .effective; layer = r .layer }; lent = after }
-
--- the labels in the first n places of two lists
-unfoldable pub labelsIn : ℕ → List ℕ → List ℕ → Labels
-labelsIn n distances parents = labelsOf (take n distances) (take n parents)
 
 module _ (file : List ℕ) (source P : ℕ) (schedule : List ℕ) (lent : call.Lent) where
   -- demand 3 of a call that answered so and left the lists so

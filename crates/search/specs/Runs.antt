@@ -14,11 +14,11 @@ use Rattle.bag.specs.Nodes.{heldBy}
 use Rattle.bag.specs.Promises.{Pooled, weighNodes, weighFree}
 use Rattle.model.specs.State.{openingLabels}
 use Rattle.model.specs.Play.{Run, play}
-use Rattle.model.specs.Call.{wordOf, nodePlaces}
+use Rattle.model.specs.Call.{nodePlaces}
+use Rattle.model.specs.Words.{wordOf, labelsOf}
 use Rattle.model.specs.Demand.{Accepted}
 use Rattle.search.specs.declared.Answer.{Answer}
-use Rattle.workers.specs.Shown.{labelsOf}
-use Rattle.workers.specs.Steps.{Ground}
+use Rattle.graph.specs.Steps.{Ground}
 
 -- as many parents as distances, no more than n may be, and node lists for P workers, left of exactly its need
 pub record Sized (P : ℕ) (distances parents left right number : List ℕ) : Type 0 where

@@ -1,5 +1,4 @@
 -- Facts of the workers.
-pub mod WordFacts
 pub mod RowFacts
 pub mod TriedFacts
 pub mod MoveFacts

@@ -23,10 +23,13 @@ use Rattle.model.specs.Table.{holdAt, move, moveOf}
 use Rattle.workers.specs.declared.Phase.{Phase}
 use Rattle.workers.specs.declared.Phase.the-variants.{Free, Holding, InHand, Marked, Named}
 use Rattle.workers.specs.declared.Worker.{Worker}
-use Rattle.workers.specs.Shown.{labelsOf, phaseOf, workerOf, bagsOf}
-use Rattle.workers.specs.Steps.{Ground, EdgeOf, Fits, holdFrom, Between, Advanced, Apart, Stocked, Begun, Stowed, Workable, Worked}
+use Rattle.model.specs.Words.{labelsOf}
+use Rattle.workers.specs.Shown.{phaseOf, workerOf, bagsOf}
+use Rattle.graph.specs.Steps.{Ground}
+use Rattle.graph.proofs.GroundFacts.{offsets-long}
+use Rattle.workers.specs.Steps.{EdgeOf, Fits, holdFrom, Between, Advanced, Apart, Stocked, Begun, Stowed, Workable, Worked}
 use Rattle.workers.proofs.TriedFacts.{tried-met}
-use Rattle.workers.proofs.RowFacts.{offsets-long, hold-shown, hold-fits, pass-shown, pass-fits}
+use Rattle.workers.proofs.RowFacts.{hold-shown, hold-fits, pass-shown, pass-fits}
 
 -- Two bags of one pool, of which one moves.
 

@@ -13,16 +13,17 @@ use borrow.Author.Tests.{ltb-true, ltb-false, lt-ltb, le-ltb, ne-eqb}
 use Rattle.numbers.specs.Numbers.{unset}
 use Rattle.lists.proofs.Tests.{reaches-at}
 use Rattle.graph.specs.Graph.{edges, offsetsOf, rowsOf}
-use Rattle.graph.specs.Write.{rowCount}
-use Rattle.graph.proofs.Bridge.{Rows, graph-rows, offsets-count, length-rows, row-at, offsets-rise, offsets-end, row-between}
+use Rattle.graph.specs.Steps.{Ground}
+use Rattle.graph.proofs.GroundFacts.{offsets-long, rows-rise, rows-within, row-ends, row-target, target-below}
 use Rattle.model.specs.Paths.{edgeTarget, Labels, isSet}
 use Rattle.model.specs.State as model
 use Rattle.model.specs.Table.{holdAt, look, move}
 use Rattle.workers.specs.declared.Phase.{Phase}
 use Rattle.workers.specs.declared.Phase.the-variants.{Free, Holding, InHand, Marked, Named}
-use Rattle.workers.specs.Shown.{optionOf, labelsOf, phaseOf}
-use Rattle.workers.specs.Steps.{Ground, EdgeOf, Fits, holdFrom, lookAt, Advanced}
-use Rattle.workers.proofs.WordFacts.{label-at, mark-shown, name-shown}
+use Rattle.model.specs.Words.{optionOf, labelsOf}
+use Rattle.workers.specs.Shown.{phaseOf}
+use Rattle.workers.specs.Steps.{EdgeOf, Fits, holdFrom, lookAt, Advanced}
+use Rattle.model.proofs.WordFacts.{label-at, mark-shown, name-shown}
 
 -- what an edge of a vertex needs no test for: each index is in its list and fits 16 bits
 pub record EdgeSmall (offsets targets : List ℕ) (n u e : ℕ) : Type 0 where
@@ -33,54 +34,6 @@ pub record EdgeSmall (offsets targets : List ℕ) (n u e : ℕ) : Type 0 where
   pub target-below : getD targets e 0 < n
 
 module _ {offsets targets : List ℕ} {n : ℕ} (ground : Ground offsets targets n) where
-  -- the offsets don't fall and end where the targets do
-  ground-rows : Rows offsets targets
-  ground-rows =
-      let g = rowsOf offsets targets in
-      subst (λ (l : List ℕ). Rows l targets) (sym (ground .starts)) (subst (λ (l : List ℕ). Rows (offsetsOf g) l) (sym (ground .ends)) (graph-rows g))
-
-  -- a row for each vertex
-  ground-count : rowCount offsets ≡ n
-  ground-count = sym (length-rows offsets targets) ∙ ground .count
-
-  -- a vertex has a row
-  has-row : (u : ℕ) → u < n → u < rowCount offsets
-  has-row u h = omega (arith, ground-count)
-
-  -- one offset more than vertices
-  pub offsets-long : length offsets ≡ suc n
-  offsets-long = offsets-count offsets (ground-rows .some) ∙ ap suc ground-count
-
-  -- the edges of u are the targets from its offset up to the next one
-  row-is : (u : ℕ) → u < n → edges (rowsOf offsets targets) u ≡ take (getD offsets (u + 1) 0 - getD offsets u 0) (drop (getD offsets u 0) targets)
-  row-is u h = rw (add-one u) (row-at offsets targets u (has-row u h))
-
-  -- the offsets of a vertex don't fall
-  pub rows-rise : (u : ℕ) → u < n → getD offsets u 0 ≤ getD offsets (u + 1) 0
-  rows-rise u h = rw (add-one u) (offsets-rise offsets targets ground-rows u (has-row u h))
-
-  -- no row passes the end of the targets
-  pub rows-within : (u : ℕ) → u < n → getD offsets (u + 1) 0 ≤ length targets
-  rows-within u h = rw (add-one u) (offsets-end offsets targets ground-rows u (has-row u h))
-
-  -- from the offset of a vertex its edges lead to the next offset
-  pub row-ends : (u : ℕ) → u < n → getD offsets u 0 + length (edges (rowsOf offsets targets) u) ≡ getD offsets (u + 1) 0
-  row-ends u h =
-      ap (λ (l : List ℕ). getD offsets u 0 + length l) (row-is u h)
-      ∙ row-between (getD offsets u 0) (getD offsets (u + 1) 0) targets (rows-rise u h) (rows-within u h)
-
-  -- the target of an edge stands so far behind the offset
-  pub row-target : (u i : ℕ) → u < n → i < length (edges (rowsOf offsets targets) u)
-      → edgeTarget (rowsOf offsets targets) u i ≡ getD targets (getD offsets u 0 + i) 0
-  row-target u i h k =
-      ap (λ (l : List ℕ). getD l i 0) (row-is u h)
-      ∙ getD-take (getD offsets (u + 1) 0 - getD offsets u 0) (drop (getD offsets u 0) targets) i 0 (omega (arith, row-ends u h))
-      ∙ getD-drop (getD offsets u 0) targets i 0
-
-  -- every target is a vertex
-  pub target-below : (e : ℕ) → e < length targets → getD targets e 0 < n
-  target-below e h = reaches-at n targets e (ground .below) h
-
   -- the engine's phase at edge e of u is the model's
   pub hold-shown : (u e : ℕ) → u < n → getD offsets u 0 ≤ e
       → phaseOf offsets (holdFrom offsets u e) ≡ holdAt (rowsOf offsets targets) u (e - getD offsets u 0)
@@ -95,8 +48,8 @@ module _ {offsets targets : List ℕ} {n : ℕ} (ground : Ground offsets targets
 
       go : (b : Bool) → ltb e (getD offsets (u + 1) 0) ≡ b
           → phaseOf offsets (cond (ltb e (getD offsets (u + 1) 0)) (Holding u e) Free) ≡ cond (ltb (e - start) size) (model.holding u (e - start)) model.free
-      go true q = rw (q, lt-ltb (e - start) size (omega (arith, ltb-true e (getD offsets (u + 1) 0) q, row-ends u h)))
-      go false q = rw (q, le-ltb (e - start) size (omega (arith, ltb-false e (getD offsets (u + 1) 0) q, row-ends u h)))
+      go true q = rw (q, lt-ltb (e - start) size (omega (arith, ltb-true e (getD offsets (u + 1) 0) q, row-ends ground u h)))
+      go false q = rw (q, le-ltb (e - start) size (omega (arith, ltb-false e (getD offsets (u + 1) 0) q, row-ends ground u h)))
 
   -- and fits
   pub hold-fits : (u e : ℕ) → u < n → getD offsets u 0 ≤ e → Fits offsets n (holdFrom offsets u e)
@@ -110,13 +63,13 @@ module _ {offsets targets : List ℕ} {n : ℕ} (ground : Ground offsets targets
   -- an edge of a vertex is in the lists
   pub edge-small : {u e : ℕ} → EdgeOf offsets n u e → EdgeSmall offsets targets n u e
   edge-small {u} {e} edge =
-      let within = rows-within u (edge .vertex) in
+      let within = rows-within ground u (edge .vertex) in
       record {
         edge-below = omega (arith, edge .last);
         edge-small = omega (arith, edge .last, ground .few-edges);
-        vertex-below = omega (arith, edge .vertex, offsets-long);
+        vertex-below = omega (arith, edge .vertex, offsets-long ground);
         vertex-small = omega (arith, edge .vertex, ground .few-vertices);
-        target-below = target-below e (omega (arith, edge .last));
+        target-below = target-below ground e (omega (arith, edge .last));
       }
 
 -- The phases that the engine makes.

@@ -1,25 +1,14 @@
 -- What the engine's numbers, lists and workers stand for: the model's labels, phases, workers and state, each read off by a function.
-use mathlib.Core.Bool.{false, cond}
+use mathlib.Core.Bool.{false}
 use mathlib.Core.List.{List, [], _∷_, map}
-use mathlib.Core.Option.{Option, none, some}
 use Prim.Native.Nat.{ℕ, _-_}
-use lib.Dec.{eqb}
 use lib.ListN.{getD}
-use Rattle.numbers.specs.Numbers.{unset}
 use Rattle.bag.specs.Nodes.{heldBy}
-use Rattle.model.specs.Paths.{Labels}
 use Rattle.model.specs.State as model
+use Rattle.model.specs.Words.{labelsOf}
 use Rattle.workers.specs.declared.Phase.{Phase}
 use Rattle.workers.specs.declared.Phase.the-variants.{Free, Holding, InHand, Marked, Named}
 use Rattle.workers.specs.declared.Worker.{Worker}
-
--- "65,535 means unset, in distances and parents only"
-unfoldable pub optionOf : ℕ → Option ℕ
-optionOf word = cond (eqb word unset) none (some word)
-
--- the labels that the lists of distances and parents stand for
-unfoldable pub labelsOf : List ℕ → List ℕ → Labels
-labelsOf distances parents = record { distances = map optionOf distances; parents = map optionOf parents }
 
 -- the phase that an engine's phase stands for: the engine counts edges through all rows, the model from the start of u's row
 unfoldable pub phaseOf : List ℕ → Phase → model.Phase

@@ -7,9 +7,9 @@ use mathlib.Core.Option.{Option, none, some}
 use Prim.Native.Nat.{ℕ, _+_, _≤_, _<_}
 use lib.Dec.{eqb, ltb}
 use lib.ListN.{length, getD, replicate, set}
-use Rattle.numbers.specs.Numbers.{maxVertices, maxEdges, maxWorkers, unset}
-use Rattle.lists.specs.Lists.{reaches}
-use Rattle.graph.specs.Graph.{offsetsOf, targetsOf, rowsOf}
+use Rattle.numbers.specs.Numbers.{maxVertices, maxWorkers, unset}
+use Rattle.graph.specs.Graph.{rowsOf}
+use Rattle.graph.specs.Steps.{Ground}
 use Rattle.pennant.specs.Bag.{Bag}
 use Rattle.pennant.specs.Held.{copies}
 use Rattle.bag.specs.Nodes.{heldBy, emptySlots}
@@ -22,7 +22,8 @@ use Rattle.workers.specs.declared.Phase.{Phase}
 use Rattle.workers.specs.declared.Phase.the-variants.{Free, Holding, InHand, Marked, Named}
 use Rattle.workers.specs.declared.Worker.{Worker}
 use Rattle.workers.specs.declared.Pair.{Pair}
-use Rattle.workers.specs.Shown.{labelsOf, phaseOf, workerOf, workersOf, bagsOf}
+use Rattle.model.specs.Words.{labelsOf}
+use Rattle.workers.specs.Shown.{phaseOf, workerOf, workersOf, bagsOf}
 
 -- an event or a move that was tried: the table has something for it where its condition was met, else all is as it was
 pub record Tried {A : Type 0} (o : Option A) (old new : A) (met : Bool) : Type 0 where
@@ -30,15 +31,6 @@ pub record Tried {A : Type 0} (o : Option A) (old new : A) (met : Bool) : Type 0
   pub kept : met ≡ false → new ≡ old
 
 -- Rows.
-
--- offsets and targets of a graph of n vertices within the sizes: `rowsOf offsets targets`
-pub record Ground (offsets targets : List ℕ) (n : ℕ) : Type 0 where
-  pub starts : offsets ≡ offsetsOf (rowsOf offsets targets)
-  pub ends : targets ≡ targetsOf (rowsOf offsets targets)
-  pub count : length (rowsOf offsets targets) ≡ n
-  pub below : reaches n targets ≡ false
-  pub few-vertices : n ≤ maxVertices
-  pub few-edges : length targets ≤ maxEdges
 
 -- edge e, counted through all rows, is one of vertex u
 pub record EdgeOf (offsets : List ℕ) (n u e : ℕ) : Type 0 where

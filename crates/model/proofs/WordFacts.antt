@@ -13,10 +13,9 @@ use borrow.Author.Tests.{eqb-true, ne-eqb}
 use Rattle.numbers.specs.Numbers.{unset}
 use Rattle.lists.specs.Lists.{overlay}
 use Rattle.lists.proofs.Replaced.{map-set, map-at}
 use Rattle.model.specs.Paths.{distanceOf}
 use Rattle.model.specs.Table.{mark, name}
-use Rattle.model.specs.Call.{wordOf}
-use Rattle.workers.specs.Shown.{optionOf, labelsOf}
+use Rattle.model.specs.Words.{wordOf, optionOf, labelsOf}
 
 -- a number that isn't the one for unset stands for itself
 pub word-set : (word : ℕ) → word < unset → optionOf word ≡ some word
