@@ -14,6 +14,8 @@ pub mod WalkFacts
 pub mod MarkFacts
 pub mod FillFacts
 pub mod ReadFacts
+pub mod EarlyFacts
+pub mod UnchainFacts
 pub mod InView
 pub mod WellFormedRows
 pub mod Encoding

@@ -1,4 +1,5 @@
 -- Facts about specs/Lists.antt that several crates' proofs cite.
+pub mod Any
 pub mod Chains
 pub mod Members
 pub mod Or

@@ -1,6 +1,6 @@
 -- Facts about `first`: how the number of a list of refusals follows from its parts, so that a proof takes an order of refusals test by test.
 use mathlib.Core.Path.{_≡_, refl}
-use mathlib.Core.Bool.{Bool, true, false}
+use mathlib.Core.Bool.{Bool, true, false, _&&_, and-eq-true-iff}
 use mathlib.Core.List.{List, [], _∷_, _++_}
 use Prim.Native.Nat.{ℕ, _<_}
 use native.Mathlib.Omega.{arith}
@@ -63,3 +63,15 @@ unfolding first
 first-under limit p [] h = p
 first-under limit p (true gives number ∷ rest) h = h .0
 first-under limit p (false gives number ∷ rest) h = first-under limit p rest (h .1)
+
+-- whether a test holds of each number of a list of refusals
+abbrev pub eachNumber : (ℕ → Bool) → List Refusal → Bool
+eachNumber f [] = true
+eachNumber f (test gives number ∷ rest) = f number && eachNumber f rest
+
+-- then it holds of the list's number, if that is not 0
+pub first-each : (f : ℕ → Bool) (l : List Refusal) → eachNumber f l ≡ true → (first l ≡ 0 → ⊥) → f (first l) ≡ true
+unfolding first
+first-each f [] e h = absurd (h refl)
+first-each f (true gives number ∷ rest) e h = and-eq-true-iff (f number) (eachNumber f rest) .0 e .0
+first-each f (false gives number ∷ rest) e h = first-each f rest (and-eq-true-iff (f number) (eachNumber f rest) .0 e .1) h

@@ -1,28 +1,26 @@
 -- A whole call's outcome, one fact for each way out.
 use mathlib.Core.Path.{_≡_, refl, sym, ap, _∙_}
-use mathlib.Core.Bool.{Bool, true, false, cond, not, _&&_, and-eq-true-iff}
+use mathlib.Core.Bool.{Bool, true, false, cond, not}
 use mathlib.Core.List.{List, [], _∷_, _++_, append-assoc}
-use Prim.Native.Nat.{ℕ, _+_, _≤_}
+use Prim.Native.Nat.{ℕ, _+_}
 use native.Mathlib.Omega.{arith}
-use lib.ListN.{length, take, drop, replicate}
-use lib.Seq.{take-at}
-use borrow.Author.Tests.{not-true, ne-eqb}
+use lib.ListN.{take, replicate}
+use borrow.Author.Tests.{not-true}
 use Rattle.numbers.specs.Numbers.{success, repeated, unreached, unfinished}
 use Rattle.numbers.specs.Refusals.{Refusal, _gives_, first}
-use Rattle.numbers.proofs.First.{Positive, first-append, first-append-stop}
+use Rattle.numbers.proofs.First.{first-append, first-append-stop, first-each}
 use Rattle.lists.specs.Lists.{overlay, elem}
-use Rattle.lists.proofs.Overlay.{overlay-long}
-use Rattle.graph.specs.Graph.{offsetsOf, targetsOf, rowsOf}
-use Rattle.graph.specs.File.{edgeCount, graphOf}
-use Rattle.graph.specs.Read.{headerRefusals, scanRefusals, chainRefusals, writesRows}
+use Rattle.graph.specs.Graph.{rowsOf}
+use Rattle.graph.specs.File.{edgeCount}
+use Rattle.graph.specs.Read.{headerRefusals, scanRefusals, chainRefusals}
 use Rattle.graph.specs.Steps.{Unchained}
 use Rattle.graph.specs.declared.ReadAnswer.{ReadAnswer}
-use Rattle.graph.proofs.Bridge.{graph-again, length-offsets}
+use Rattle.graph.proofs.UnchainFacts.{marks-clear, starts-kept, ends-kept, starts-written, ends-written, rows-graph, rows-ground, starts-there, ends-there}
 use Rattle.schedule.specs.Check.{scheduleRefusals}
 use Rattle.schedule.proofs.Schedules.{schedule-passed}
 use Rattle.model.specs.Play.{play}
 use Rattle.model.specs.Call.{Lent, Lengths, lengthsOf, earlyRefusals, Outcome, nodePlaces, runOf, inputRefusals, searchRefusals, searchNumber, plays, outcomeOfSearch}
-use Rattle.model.proofs.Calls.{early-positive, call-parts, call-sizes, call-accepted, call-number, call-played, call-refused}
+use Rattle.model.proofs.Calls.{early-positive, call-parts, call-accepted, call-number, call-played, call-refused}
 use Rattle.search.specs.declared.Answer.{Answer}
 use Rattle.search.specs.Runs.{refusal, Playable, PlayedOut}
 use Rattle.search.specs.Input.{earlyAnswer}
@@ -30,18 +28,6 @@ use Rattle.search.specs.Promise.{lentLists, searchExit}
 use Rattle.search.proofs.JudgeFacts.{Passed, early-number, early-passed}
 
 -- Numbers.
-
--- whether a test holds of each number of a list of refusals
-abbrev eachNumber : (ℕ → Bool) → List Refusal → Bool
-eachNumber f [] = true
-eachNumber f (test gives number ∷ rest) = f number && eachNumber f rest
-
--- then it holds of the list's number, if that is not 0
-first-each : (f : ℕ → Bool) (l : List Refusal) → eachNumber f l ≡ true → (first l ≡ 0 → ⊥) → f (first l) ≡ true
-unfolding first
-first-each f [] e h = absurd (h refl)
-first-each f (true gives number ∷ rest) e h = and-eq-true-iff (f number) (eachNumber f rest) .0 e .0
-first-each f (false gives number ∷ rest) e h = first-each f rest (and-eq-true-iff (f number) (eachNumber f rest) .0 e .1) h
 
 -- a refusal before the chains' plays nothing and leaves the marks as they were
 early-plays : (file : List ℕ) (source P : ℕ) (schedule : List ℕ) (lengths : Lengths) → let k = first (earlyRefusals file source P schedule lengths) in
@@ -130,89 +116,37 @@ module _ (file : List ℕ) (source P : ℕ) (schedule : List ℕ) (lent : Lent) 
 
       module _ {k : ℕ} {offsets′ targets′ marks′ : List ℕ}
           (walked : Unchained file (head .edges) k (lent .offsets) (lent .targets) (lent .marks) offsets′ targets′ marks′) where
-        -- the marks are cleared
-        marks-clear : marks′ ≡ overlay (replicate (edgeCount file) 0) (lent .marks)
-        marks-clear = walked .cleared ∙ ap (λ (m : ℕ). overlay (replicate m 0) (lent .marks)) (told .scanned .sized .edges)
-
         -- a refusal of the chains
         pub search-chains : {r : Answer} → (k ≡ 0 → ⊥) → r ≡ refusal k
             → searchExit r (lentLists offsets′ targets′ marks′ (lent .distances) (lent .parents) (lent .left) (lent .right) (lent .number))
             ≡ outcomeOfSearch file source P schedule lent
-        unfolding writesRows
         search-chains h e =
             let same = walked .judged in
             let found : first (chainRefusals file) ≡ 0 → ⊥ = λ z. h (same ∙ z) in
             let none = chain-plays file found in
             let all : number ≡ first (chainRefusals file) = number-later ∙ first-append-stop (chainRefusals file) last (omega arith) in
-            let starts : offsets′ ≡ lent .offsets = rw (ne-eqb k 0 h) at (walked .starts) in
-            let ends : targets′ ≡ lent .targets = rw (ne-eqb k 0 h) at (walked .ends) in
+            let starts = starts-kept (told .scanned) walked h in
+            let ends = ends-kept (told .scanned) walked h in
             (λ i. searchExit ((e ∙ ap refusal same) i)
             (lentLists (starts i) (ends i) marks′ (lent .distances) (lent .parents) (lent .left) (lent .right) (lent .number)))
-            ∙ refused-outcome true all (none .0) (none .1) marks-clear
+            ∙ refused-outcome true all (none .0) (none .1) (marks-clear (told .scanned) walked)
 
         module _ (whole : k ≡ 0) where
           -- every test on the input is passed
           input-passed : first (inputRefusals file source P schedule lent) ≡ 0
           input-passed = ap first input-parts ∙ first-append early (chainRefusals file) (early-positive file source P schedule lent) (told .none) ∙ sym (walked .judged) ∙ whole
 
-          -- n and m of the graph
-          sizes : (length (graphOf file) ≡ head .vertices) × (length (targetsOf (graphOf file)) ≡ head .edges)
-          sizes =
-              let graph = call-sizes file source P schedule lent input-passed in
-              (graph .0 ∙ sym (told .scanned .sized .vertices), graph .1 ∙ sym (told .scanned .sized .edges))
-
-          -- the offsets are written
-          starts-written : offsets′ ≡ overlay (offsetsOf (graphOf file)) (lent .offsets)
-          unfolding writesRows
-          starts-written = rw whole at (walked .starts)
-
-          -- the targets are written
-          ends-written : targets′ ≡ overlay (targetsOf (graphOf file)) (lent .targets)
-          unfolding writesRows
-          ends-written = rw whole at (walked .ends)
-
-          -- their first n + 1 places are the offsets of the graph
-          first-starts : take (head .vertices + 1) offsets′ ≡ offsetsOf (graphOf file)
-          unfolding overlay
-          first-starts =
-              let long = length-offsets (graphOf file) in
-              ap (λ (l : List ℕ). take (head .vertices + 1) l) starts-written
-              ∙ take-at (offsetsOf (graphOf file)) (drop (length (offsetsOf (graphOf file))) (lent .offsets)) (head .vertices + 1) (omega (arith, sizes .0))
-
-          -- their first m places are the targets of the graph
-          first-ends : take (head .edges) targets′ ≡ targetsOf (graphOf file)
-          unfolding overlay
-          first-ends =
-              ap (λ (l : List ℕ). take (head .edges) l) ends-written
-              ∙ take-at (targetsOf (graphOf file)) (drop (length (targetsOf (graphOf file))) (lent .targets)) (head .edges) (sizes .1)
-
-          -- so these places hold the rows of the file's graph
-          rows-graph : rowsOf (take (head .vertices + 1) offsets′) (take (head .edges) targets′) ≡ graphOf file
-          rows-graph = rw (first-starts, first-ends) (graph-again (graphOf file))
-
           -- a run may start
           pub search-playable : Playable (head .vertices) (head .edges) source P schedule offsets′ targets′ (lent .distances) (lent .parents) (lent .left)
               (lent .right) (lent .number)
           search-playable =
-              let g = graphOf file in
-              let accepted = call-accepted file source P schedule lent input-passed in
               let long = told .long in
-              let starts-there : head .vertices + 1 ≤ length offsets′ =
-              rw starts-written (omega (arith, overlay-long (offsetsOf g) (lent .offsets), length-offsets g, sizes .0)) in
-              let ends-there : head .edges ≤ length targets′ = rw ends-written (omega (arith, overlay-long (targetsOf g) (lent .targets), sizes .1)) in
               record {
-                rows = record {
-                  starts = first-starts ∙ ap offsetsOf (sym rows-graph);
-                  ends = first-ends ∙ ap targetsOf (sym rows-graph);
-                  count = ap length rows-graph ∙ sizes .0;
-                  below = rw (first-ends, ← (sizes .0)) (accepted .targets-below);
-                  few-vertices = told .scanned .sized .fewVertices;
-                  few-edges = rw (first-ends, sizes .1) (told .scanned .sized .fewEdges);
-                };
-                accepted = rw rows-graph accepted;
+                rows = rows-ground (told .scanned) walked whole;
+                accepted = rw (rows-graph (told .scanned) walked whole) (call-accepted file source P schedule lent input-passed);
                 few-events = schedule-passed schedule P (call-parts file source P schedule lent input-passed .schedule-tests) .few-events;
-                offsets-there = starts-there;
-                targets-there = ends-there;
+                offsets-there = starts-there (told .scanned) walked whole;
+                targets-there = ends-there (told .scanned) walked whole;
                 distances-there = long .distances-there;
                 parents-there = long .parents-there;
                 left-there = long .left-there;
@@ -227,12 +161,15 @@ module _ (file : List ℕ) (source P : ℕ) (schedule : List ℕ) (lent : Lent) 
               → searchExit r (lentLists offsets′ targets′ marks′ distances′ parents′ left′ right′ number′) ≡ outcomeOfSearch file source P schedule lent
           unfolding runOf
           search-played out =
-              let out′ = rw (rows-graph, told .scanned .sized .vertices) at out in
+              let out′ = rw (rows-graph (told .scanned) walked whole, told .scanned .sized .vertices) at out in
+              let starts = starts-written (told .scanned) walked whole in
+              let ends = ends-written (told .scanned) walked whole in
+              let clear = marks-clear (told .scanned) walked in
               let decided = call-number file source P schedule lent input-passed in
               let answered = out′ .told .number ∙ sym decided in
               (λ i. record {
                 answer = record { number = answered i; used = out′ .told .used i; effective = out′ .told .effective i; layer = out′ .told .layer i };
-                lent = lentLists (starts-written i) (ends-written i) (marks-clear i) (out′ .labelled i) (out′ .named i) (out′ .left-clear i)
+                lent = lentLists (starts i) (ends i) (clear i) (out′ .labelled i) (out′ .named i) (out′ .left-clear i)
                     (out′ .right-clear i) (out′ .number-clear i);
               })
               ∙ sym (call-played file source P schedule lent (ap plays decided ∙ run-plays (runOf file source P schedule .state .finished)))

@@ -55,7 +55,7 @@ module _ (file : List ℕ) (source P : ℕ) (schedule : List ℕ) (lent : Lent) 
     -- A call that plays.
     module _ (p : plays (r .number) ≡ true) where
       -- so does the model's number
-      played : plays (searchNumber file source P schedule lent) ≡ true
+      pub played : plays (searchNumber file source P schedule lent) ≡ true
       played = ap plays (sym answered) ∙ p
 
       -- demand 3 of its run
@@ -102,7 +102,7 @@ module _ (file : List ℕ) (source P : ℕ) (schedule : List ℕ) (lent : Lent) 
           λ i. record { distances = far i; parents = near i }
 
     -- 0 is the number of a call that plays
-    success-plays : r .number ≡ success → plays (r .number) ≡ true
+    pub success-plays : r .number ≡ success → plays (r .number) ≡ true
     unfolding plays elem
     success-plays z = ap plays z
 

@@ -1,0 +1,2 @@
+-- The result of a search passes the checker.
+pub mod Theorem

@@ -1,0 +1,119 @@
+-- The result of every search that answered 0 passes the checker: its input passed the checker's tests, and its result is right.
+use mathlib.Core.Path.{_≡_, sym, ap, _∙_}
+use mathlib.Core.List.{List, map}
+use mathlib.Core.Bool.{true, false}
+use Prim.Native.Nat.{ℕ, _≤_}
+use native.Mathlib.Nat.{min-le-right}
+use native.Mathlib.Omega.{arith}
+use lib.ListN.{length, take, replicate, length-take, length-map, length-replicate}
+use borrow.Author.Tests.{leb-false}
+use Rattle.numbers.specs.Numbers.{success}
+use Rattle.lists.specs.Lists.{overlay, elem}
+use Rattle.lists.proofs.Overlay.{overlay-here, overlay-long}
+use Rattle.graph.specs.Graph.{offsetsOf, targetsOf}
+use Rattle.graph.specs.File.{vertexCount, edgeCount, graphOf}
+use Rattle.graph.specs.Read.{rowsShort}
+use Rattle.graph.proofs.FileLists.{length-graph}
+use Rattle.graph.proofs.WellFormed.{needs-met}
+use Rattle.graph.proofs.Bridge.{length-offsets}
+use Rattle.model.specs.Words.{optionOf, labelsOf, labelsIn}
+use Rattle.model.specs.Call as call
+use Rattle.model.proofs.Calls.{call-passed, call-parts, call-sizes, call-played}
+use Rattle.search.specs.declared.Answer.{Answer}
+use Rattle.search.specs.Promise.{searchExit}
+use Rattle.search.proofs.KeptFacts.{call-keeps, played, success-plays}
+use Rattle.verify.specs.Check.{Lent, Outcome, lentAfter, checkNumber, outcomeOfCheck, judges}
+use Rattle.verify.specs.Promise.{RightLists}
+use Rattle.verify.proofs.Judging.{parts-passed, number-right}
+use Rattle.search_checked.specs.Checked.{rowLists, Accepts}
+
+-- a list whose first n places stand for n labels has n places
+places-there : (n k : ℕ) (l : List ℕ) → length (map optionOf (take n l)) ≡ k → n ≡ k → n ≤ length l
+places-there n k l e h = omega (arith, length-map (take n l) optionOf, length-take n l, min-le-right n (length l))
+
+module _ (file : List ℕ) (source P : ℕ) (schedule : List ℕ) (lent : call.Lent) {r : Answer} {after : call.Lent}
+    (e : searchExit r after ≡ call.outcomeOfSearch file source P schedule lent) (z : r .number ≡ success) where
+  -- the search played its schedule
+  has-played : call.plays (call.searchNumber file source P schedule lent) ≡ true
+  has-played = played file source P schedule lent e (success-plays file source P schedule lent e z)
+
+  -- its result is right
+  right : RightLists file source (after .distances) (after .parents)
+  right = call-keeps file source P schedule lent e .right-result z
+
+  -- there is a distance for each vertex
+  distances-there : vertexCount file ≤ length (after .distances)
+  unfolding labelsIn labelsOf
+  distances-there = places-there (vertexCount file) (length (graphOf file)) (after .distances) (right .distances-all) (sym (length-graph file))
+
+  -- and a parent
+  parents-there : vertexCount file ≤ length (after .parents)
+  unfolding labelsIn labelsOf
+  parents-there = places-there (vertexCount file) (length (graphOf file)) (after .parents) (right .parents-all) (sym (length-graph file))
+
+  -- The check.
+
+  -- lent lists that are not short, it answers 0
+  number-zero : (other : Lent)
+      → rowsShort (vertexCount file) (edgeCount file) (length (other .offsets)) (length (other .targets)) (length (other .marks)) ≡ false
+      → checkNumber file source (after .distances) (after .parents) other ≡ success
+  number-zero other long =
+      let tests = call-parts file source P schedule lent (call-passed file source P schedule lent has-played) in
+      let passed = parts-passed file source (after .distances) (after .parents) other (record {
+        header = tests .header;
+        scan = tests .scan;
+        source-below = leb-false (vertexCount file) source (tests .source-test);
+        rows-there = long;
+        distances-there = distances-there;
+        parents-there = parents-there;
+        whole = tests .whole;
+      }) in
+      number-right file source (after .distances) (after .parents) other passed right
+
+  -- The search's own lists.
+
+  -- the offsets are written
+  starts : after .offsets ≡ overlay (offsetsOf (graphOf file)) (lent .offsets)
+  starts = ap (λ (o : call.Outcome). o .lent .offsets) (e ∙ call-played file source P schedule lent has-played)
+
+  -- the targets are
+  ends : after .targets ≡ overlay (targetsOf (graphOf file)) (lent .targets)
+  ends = ap (λ (o : call.Outcome). o .lent .targets) (e ∙ call-played file source P schedule lent has-played)
+
+  -- the marks are cleared
+  cleared : after .marks ≡ overlay (replicate (edgeCount file) 0) (lent .marks)
+  cleared = ap (λ (o : call.Outcome). o .lent .marks) (e ∙ call-played file source P schedule lent has-played)
+
+  -- so none of them is short
+  own-long : rowsShort (vertexCount file) (edgeCount file) (length (after .offsets)) (length (after .targets)) (length (after .marks)) ≡ false
+  own-long =
+      let g = graphOf file in
+      let zeros : List ℕ = replicate (edgeCount file) 0 in
+      let sizes = call-sizes file source P schedule lent (call-passed file source P schedule lent has-played) in
+      needs-met file (after .offsets) (after .targets) (after .marks)
+      (rw starts (omega (arith, overlay-long (offsetsOf g) (lent .offsets), length-offsets g, sizes .0)))
+      (rw ends (omega (arith, overlay-long (targetsOf g) (lent .targets), sizes .1)))
+      (rw cleared (omega (arith, overlay-long zeros (lent .marks), length-replicate {A = ℕ} (edgeCount file) 0)))
+
+  -- and a check that answers 0 writes what is there
+  own-kept : lentAfter success file (rowLists after) ≡ rowLists after
+  unfolding lentAfter judges elem
+  own-kept =
+      let g = graphOf file in
+      sym (λ i. record {
+        offsets = overlay-here (offsetsOf g) (lent .offsets) starts i;
+        targets = overlay-here (targetsOf g) (lent .targets) ends i;
+        marks = overlay-here (replicate (edgeCount file) 0) (lent .marks) cleared i;
+      })
+
+  -- the theorem
+  pub search-checked : Accepts file source after
+  unfolding outcomeOfCheck
+  search-checked = record {
+    any-lists = λ other long answered. ap (λ (o : Outcome). o .number) answered ∙ number-zero other long;
+    own-lists = λ answered.
+        let zeroth = number-zero (rowLists after) own-long in (
+          ap (λ (o : Outcome). o .number) answered ∙ zeroth,
+          ap (λ (o : Outcome). o .lent) answered ∙ ap (λ (k : ℕ). lentAfter k file (rowLists after)) zeroth ∙ own-kept,
+        );
+  }

@@ -1,0 +1,2 @@
+-- What the checker answers to a search's result.
+pub mod Checked
