@@ -1,14 +1,14 @@
 // The largest bag, of 32,768 numbers, in lists of 32,769 places: filled, emptied; and made of two of
 // half its size, which it is split into again.
 ghost use Rattle.bag.specs.Promises.{Pooled};
-ghost use Rattle.runs_bags.specs.Family.{Room, slotsOf};
-use crate::census::are_parts;
-use crate::counts::add_nodes;
-use crate::counts::are_ones;
-use crate::family;
-use crate::walk::filled;
-use crate::walk::free_nodes;
+ghost use Rattle.bagkit.specs.Family.{Room, slotsOf};
 use bag::Bag;
+use bagkit::census::are_parts;
+use bagkit::counts::add_nodes;
+use bagkit::counts::are_ones;
+use bagkit::family;
+use bagkit::walk::filled;
+use bagkit::walk::free_nodes;
 use testkit::tally::Tally;
 use testkit::words::at;
 

@@ -1,19 +1,12 @@
-// Runs the operations of crate `bag` against plain counts that are kept apart from it, and writes a
-// line for each group: how many cases it had, and how many went wrong.
-mod census;
-mod counts;
-mod family;
+// Runs the operations of crate `bag` on one bag or two against plain counts that are kept apart from
+// it, and writes a line for each group: how many cases it had, and how many went wrong. Crate
+// `bagkit` has the counts, and the walk that they come from.
 mod largest;
 mod order;
-mod random_operations;
 mod splits;
-mod swept;
-mod walk;
 
 fn main() {
-    random_operations::run();
     splits::run();
     order::run();
     largest::run();
-    swept::run();
 }

@@ -4,9 +4,9 @@
 ghost use Prim.Native.Nat.{_<_, _≤_};
 ghost use lib.ListN.{length};
 ghost use Rattle.bag.specs.Promises.{Pooled};
-ghost use Rattle.runs_bags.specs.Family.{Room, slotsOf};
-use crate::family;
+ghost use Rattle.bagkit.specs.Family.{Room, slotsOf};
 use bag::Bag;
+use bagkit::family;
 use testkit::tally::Tally;
 
 // Whether the numbers of bag i come out as listed, and none is left.

@@ -1,9 +1,9 @@
 // Bags of every size from 2 to 64, split: how many numbers each half has, and that all of them are
 // there once.
-ghost use Rattle.runs_bags.specs.Family.{Room};
-use crate::census::are_parts;
-use crate::family;
+ghost use Rattle.bagkit.specs.Family.{Room};
 use bag::Bag;
+use bagkit::census::are_parts;
+use bagkit::family;
 use testkit::tally::Tally;
 
 // A new pool, the numbers below `count` in bag 0, and split into bags 0 and 1.

@@ -21,8 +21,8 @@ use Rattle.schedule.proofs.Schedules.{schedule-passed}
 use Rattle.model.specs.Play.{play}
 use Rattle.model.specs.Call.{Lent, Lengths, lengthsOf, earlyRefusals, Outcome, nodePlaces, runOf, inputRefusals, searchRefusals, searchNumber, plays, outcomeOfSearch}
 use Rattle.model.proofs.Calls.{early-positive, call-parts, call-accepted, call-number, call-played, call-refused}
-use Rattle.search.specs.declared.Answer.{Answer}
-use Rattle.search.specs.Runs.{refusal, Playable, PlayedOut}
+use Rattle.engine.specs.declared.Answer.{Answer}
+use Rattle.search.specs.Played.{refusal, Playable, PlayedOut}
 use Rattle.search.specs.Input.{earlyAnswer}
 use Rattle.search.specs.Promise.{lentLists, searchExit}
 use Rattle.search.proofs.JudgeFacts.{Passed, early-number, early-passed}

@@ -15,7 +15,7 @@ use Rattle.model.specs.Play.{Run, play, stateAt}
 use Rattle.model.specs.Demand.{Demand, Fitting}
 use Rattle.model.specs.Call.{Lent, Outcome, runOf, searchNumber, plays, outcomeOfSearch}
 use Rattle.model.proofs.Calls.{call-passed, call-sizes, call-demand, call-number, call-rounds, call-played, call-refused, call-effective}
-use Rattle.search.specs.declared.Answer.{Answer}
+use Rattle.engine.specs.declared.Answer.{Answer}
 use Rattle.model.specs.Words.{optionOf, labelsOf, labelsIn}
 use Rattle.search.specs.Promise.{searchExit, Kept}
 use Rattle.model.proofs.WordFacts.{laid-back}

@@ -10,8 +10,9 @@ use Rattle.lists.proofs.Overlay.{part-laid, part-cleared}
 use Rattle.graph.specs.Graph.{rowsOf}
 use Rattle.model.specs.Play.{play}
 use Rattle.model.specs.Call.{nodePlaces}
-use Rattle.search.specs.declared.Answer.{Answer}
-use Rattle.search.specs.Runs.{Runnable, Ran, Playable, PlayedOut}
+use Rattle.engine.specs.declared.Answer.{Answer}
+use Rattle.engine.specs.Runs.{Runnable, Ran}
+use Rattle.search.specs.Played.{Playable, PlayedOut}
 
 module _ {n m source P : ℕ} {schedule offsets targets distances parents left right number : List ℕ}
     (p : Playable n m source P schedule offsets targets distances parents left right number) where

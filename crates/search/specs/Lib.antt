@@ -1,4 +1,4 @@
--- The search under a schedule: what opening and run hand to one another, and what a whole call promises.
-pub mod Runs
+-- The search under a schedule: the run on the lists' parts, the tests on the input, and what a whole call promises.
+pub mod Played
 pub mod Input
 pub mod Promise

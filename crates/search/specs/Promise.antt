@@ -17,7 +17,7 @@ use Rattle.model.specs.Serial.{Serial}
 use Rattle.model.specs.Demand.{Demand, Finisher}
 use Rattle.model.specs.Call as call
 use Rattle.model.specs.Words.{labelsIn}
-use Rattle.search.specs.declared.Answer.{Answer}
+use Rattle.engine.specs.declared.Answer.{Answer}
 
 -- the lists that the caller lends
 abbrev pub lentLists : List ℕ → List ℕ → List ℕ → List ℕ → List ℕ → List ℕ → List ℕ → List ℕ → call.Lent

@@ -7,12 +7,12 @@ ghost use Rattle.numbers.specs.Numbers.{maxVertices, maxWorkers};
 ghost use Rattle.graph.specs.Graph.{rowsOf};
 ghost use Rattle.model.specs.Call.{nodePlaces, lengthsShort, outcomeOfSearch};
 ghost use Rattle.model.specs.Play as model;
-ghost use Rattle.search.specs.Runs.{refusal, Playable, PlayedOut};
+ghost use Rattle.search.specs.Played.{refusal, Playable, PlayedOut};
 ghost use Rattle.search.specs.Input.{lengthsIn, earlyAnswer};
 ghost use Rattle.search.specs.Promise.{lentLists, searchExit, Kept};
-use crate::Answer;
 use crate::Lengths;
-use crate::run::run;
+use engine::Answer;
+use engine::run::run;
 use graph::ReadAnswer;
 use graph::steps;
 

@@ -1,17 +1,9 @@
 // The search under a schedule: up to eight workers share one layered breadth-first search, in the
 // order that the schedule's event bytes say. `search` is the outside call; it assumes nothing.
 mod call;
-mod run;
 
 pub use call::search;
-
-// "The run's answer: number, events used, effective events, d."
-pub struct Answer {
-    pub number: usize,
-    pub used: usize,
-    pub effective: usize,
-    pub layer: usize,
-}
+pub use engine::Answer;
 
 // The lengths of the lent lists.
 pub struct Lengths {

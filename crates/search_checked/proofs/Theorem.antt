@@ -19,7 +19,7 @@ use Rattle.graph.proofs.Bridge.{length-offsets}
 use Rattle.model.specs.Words.{optionOf, labelsOf, labelsIn}
 use Rattle.model.specs.Call as call
 use Rattle.model.proofs.Calls.{call-passed, call-parts, call-sizes, call-played}
-use Rattle.search.specs.declared.Answer.{Answer}
+use Rattle.engine.specs.declared.Answer.{Answer}
 use Rattle.search.specs.Promise.{searchExit}
 use Rattle.search.proofs.KeptFacts.{call-keeps, played, success-plays}
 use Rattle.verify.specs.Check.{Lent, Outcome, lentAfter, checkNumber, outcomeOfCheck, judges}

@@ -1,6 +1,6 @@
 -- `runs_bags::order::comes_out` is safe and ends. The invariant: the pool is well-formed with the bags, and left keeps its length. The measure is
 -- what is left of the list.
-use Rattle.runs_bags.specs.Family.{slotsOf}
+use Rattle.bagkit.specs.Family.{slotsOf}
 use Rattle.bag.specs.Promises.{Pooled}
 use lib.ListN.{length}
 use mathlib.Core.Path.{_≡_}

@@ -1,0 +1,2 @@
+-- The facts that the proofs of the four bags' operations share.
+pub mod FamilyFacts

@@ -1,0 +1,2 @@
+-- What the contracts of the bags' tests cite.
+pub mod Family

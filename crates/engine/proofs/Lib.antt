@@ -1,0 +1,7 @@
+-- Facts of the engine.
+pub mod OpenFacts
+pub mod PlayingFacts
+pub mod StartFacts
+pub mod WorkFacts
+pub mod PairFacts
+pub mod CloseFacts

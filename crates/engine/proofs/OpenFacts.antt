@@ -1,0 +1,106 @@
+-- The opening: the labels that are written, the new pool of nodes, and the source in its bag.
+use mathlib.Core.Path.{_≡_, ap, ap₂, _∙_}
+use mathlib.Core.List.{List, [], _∷_, _++_, map}
+use mathlib.Core.Option.{Option, none, some}
+use Prim.Native.Nat.{ℕ, _*_, _≤_, _<_}
+use native.Mathlib.Nat.{mul-le-mul}
+use native.Mathlib.Omega.{arith}
+use lib.ListN.{length, getD, set, replicate}
+use Rattle.numbers.specs.Numbers.{maxVertices, maxWorkers, unset}
+use Rattle.lists.specs.Lists.{overlay, numbersFrom, sumOf}
+use Rattle.lists.proofs.Overlay.{overlay-whole}
+use Rattle.lists.proofs.Replaced.{map-set, map-repeated}
+use Rattle.pennant.specs.Bag.{bagInsert}
+use Rattle.pennant.specs.Held.{weigh, one}
+use Rattle.bag.specs.Nodes.{nodesOf, heldBy, freeNodes, emptySlots}
+use Rattle.bag.specs.Promises.{Pooled, Inserted, weighNodes}
+use Rattle.bag.proofs.Family.{moved-pool}
+use Rattle.bag.proofs.Free.{free-some, free-chained, free-count, pool-free, empty-weight}
+use Rattle.bag.proofs.HeldFacts.{held-none}
+use Rattle.model.specs.State.{openingLabels}
+use Rattle.model.specs.Call.{nodePlaces}
+use Rattle.model.specs.Words.{optionOf, labelsOf}
+use Rattle.engine.specs.Runs.{Sized, FirstLayer}
+use Rattle.model.proofs.WordFacts.{word-set, word-unset}
+
+-- The labels.
+
+-- one of the two lists: unset but for the source
+pub labelled : (n source x : ℕ) (l : List ℕ) {filled stored : List ℕ} (count : ℕ) → length l ≡ n → count ≡ length l
+    → filled ≡ overlay (replicate count unset) l → stored ≡ set filled source x
+    → stored ≡ set (replicate n unset) source x
+labelled n source x l count long all fill store =
+    store
+    ∙ ap (λ (k : List ℕ). set k source x)
+    (fill ∙ ap (λ (k : ℕ). overlay (replicate k unset) l) all ∙ overlay-whole l unset ∙ ap (λ (k : ℕ). replicate k unset) long)
+
+-- it stands for the model's
+label-shown : (n source x : ℕ) → x < unset → map optionOf (set (replicate n unset) source x) ≡ set (replicate n none) source (some x)
+label-shown n source x small =
+    map-set optionOf (replicate n unset) source x
+    ∙ ap₂ (λ (l : List (Option ℕ)) (o : Option ℕ). set l source o) (map-repeated optionOf n unset ∙ ap (replicate n) word-unset) (word-set x small)
+
+-- both lists
+labels-shown : (n source : ℕ) {distances parents : List ℕ} → source < unset → distances ≡ set (replicate n unset) source 0
+    → parents ≡ set (replicate n unset) source source
+    → labelsOf distances parents ≡ openingLabels n source
+unfolding labelsOf openingLabels
+labels-shown n source small first second =
+    ap₂ (λ (a b : List (Option ℕ)). record { distances = a; parents = b })
+    (ap (map optionOf) first ∙ label-shown n source 0 (omega arith)) (ap (map optionOf) second ∙ label-shown n source source small)
+
+-- The nodes.
+
+-- P × n nodes are few
+pub nodes-few : {P n : ℕ} → P ≤ maxWorkers → n ≤ maxVertices → P * n ≤ 32768
+nodes-few p q = omega (arith, mul-le-mul p q)
+
+-- as many fit into left, in numbers of 16 bits and in words
+pub nodes-room : {P n : ℕ} {m long : ℕ} → P ≤ maxWorkers → n ≤ maxVertices → m ≡ n → long ≡ nodePlaces n P → (P * m < long) × (P * m < 65536)
+nodes-room {P} {n} {m} {long} p q same all = let product = ap (λ (k : ℕ). P * k) same in (omega arith, omega (arith, nodes-few p q))
+
+pub nodes-word : {P n m : ℕ} → P ≤ maxWorkers → n ≤ maxVertices → m ≡ n → P * m < 18446744073709551616
+nodes-word {P} p q same = let product = ap (λ (k : ℕ). P * k) same in omega (arith, nodes-few p q)
+
+-- the new pool
+module _ {P source : ℕ} {distances parents left left′ right number none : List ℕ} (sized : Sized P distances parents left right number)
+    (some-vertex : source < length distances) (m : ℕ) (same : m ≡ length distances)
+    (chained : left′ ≡ overlay (numbersFrom 1 (P * m) ++ 0 ∷ []) left) (long : length left′ ≡ length left) (empty : none ≡ emptySlots) where
+  -- how many nodes
+  abbrev nodes : ℕ
+  nodes = P * length distances
+
+  -- they are free
+  all-free : freeNodes left′ ≡ numbersFrom 1 nodes
+  all-free =
+      ap freeNodes (chained ∙ ap (λ (k : ℕ). overlay (numbersFrom 1 (P * k) ++ 0 ∷ []) left) same) ∙ free-chained left nodes (omega (arith, sized .nodes))
+
+  -- with an empty bag the pool is well-formed
+  pub new-pool : Pooled left′ right (none ∷ [])
+  new-pool =
+      let size = sized .nodes in
+      let few = nodes-few (sized .few-workers) (sized .few-vertices) in
+      rw empty (pool-free left′ right nodes 1 all-free (omega (arith, size, long)) (omega (arith, size, long, few)) (omega (arith, sized .wide, long)))
+
+  -- and a node is free
+  pub new-room : getD left′ 0 0 ≡ 0 → ⊥
+  new-room = free-some left′ (omega (arith, free-count left′ nodes all-free, mul-le-mul (sized .some-worker) some-vertex))
+
+  -- after the source is inserted
+  pub new-opened : {distances′ parents′ left″ right″ number″ slots : List ℕ} → distances′ ≡ set (replicate (length distances) unset) source 0
+      → parents′ ≡ set (replicate (length distances) unset) source source → Inserted left′ right number none source left″ right″ number″ slots
+      → FirstLayer P source distances distances′ parents′ left″ right″ number″ slots
+  unfolding weighNodes sumOf
+  new-opened first second inserted = record {
+    labels = labels-shown (length distances) source (omega (arith, sized .few-vertices)) first second;
+    held = inserted .held ∙ ap (bagInsert source) (ap (heldBy left′ right number) empty ∙ held-none left′ right number);
+    pool = moved-pool new-pool (inserted .moved);
+    whole =
+        inserted .moved .nodes one
+        ∙ omega (
+          arith,
+          ap {B = ℕ} (λ (slots : List ℕ). weigh one (nodesOf left′ right slots)) empty,
+          empty-weight left′ right one,
+          free-count left′ nodes all-free,
+        );
+  }

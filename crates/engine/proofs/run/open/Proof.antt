@@ -1,0 +1,80 @@
+-- `engine::run::open` meets its contract: the labels, the new pool, and the source in the bag.
+use borrow.Author.Needs.{needs}
+use native.Mathlib.Omega.{arith}
+use lib.ListN.{length}
+use Rattle.engine.proofs.OpenFacts.{nodes-word, nodes-room, new-pool, new-room, new-opened}
+use Rattle.engine.proofs.run.open.Statement.{statement}
+use Rattle.engine.proofs.run.open.Tie as tie
+
+label-requires : tie.Need-label-requires
+label-requires c κs = search needs
+
+mul-pool : tie.Need-mul-pool
+mul-pool c =
+    let sized = c .before .before .before .before .before .before .before .before .before .before .before .before .before .pre .1 in
+    record { fits = nodes-word (sized .few-workers) (sized .few-vertices) (c .before .before .before .before .before .label .kept .1 .0) }
+
+pool-requires : tie.Need-pool-requires
+pool-requires c κs =
+    let sized = c .before .before .before .before .before .before .before .before .before .before .before .before .before .pre .1 in
+    nodes-room (sized .few-workers) (sized .few-vertices) (c .before .before .before .before .before .label .kept .1 .0) (sized .nodes)
+
+empty-requires : tie.Need-empty-requires
+empty-requires c κs = search needs
+
+insert-requires : tie.Need-insert-requires
+insert-requires c κs =
+    let emptied = c .before .before .before in
+    let pooled = emptied .before .before .before in
+    let labels = pooled .before .before .before .before .before .before in
+    let start = labels .before .before .before .before .before .before .before .before in
+    let m = length (labels .label .last .1 .0) in
+    let same = labels .label .kept .1 .0 in
+    let long = pooled .pool .kept .0 in (
+      new-pool (start .pre .1) (start .pre .0) m same (pooled .pool .ensures) long (emptied .empty .ensures),
+      (
+        omega (arith, start .pre .1 .numbered, long),
+        new-room (start .pre .1) (start .pre .0) m same (pooled .pool .ensures) long (emptied .empty .ensures),
+      ),
+    )
+
+same-length : tie.Need-same-length
+same-length c = search needs
+
+same-length-2 : tie.Need-same-length-2
+same-length-2 c = search needs
+
+same-length-3 : tie.Need-same-length-3
+same-length-3 c = search needs
+
+same-length-4 : tie.Need-same-length-4
+same-length-4 c = search needs
+
+same-length-5 : tie.Need-same-length-5
+same-length-5 c = search needs
+
+returns : tie.Need-returns
+returns c =
+    let inserted = c .before .before .before .before .before .before in
+    let emptied = inserted .before .before .before .before in
+    let pooled = emptied .before .before .before in
+    let labels = pooled .before .before .before .before .before .before in
+    let start = labels .before .before .before .before .before .before .before .before in
+    new-opened (start .pre .1) (start .pre .0) (length (labels .label .last .1 .0)) (labels .label .kept .1 .0) (pooled .pool .ensures) (pooled .pool .kept .0)
+    (emptied .empty .ensures) (labels .label .ensures .0) (labels .label .ensures .1) (inserted .insert .ensures)
+
+pub open-spec : {M : Type 1} → statement M
+open-spec =
+    tie.close
+    (tie.spec
+    label-requires
+    mul-pool
+    pool-requires
+    empty-requires
+    insert-requires
+    same-length
+    same-length-2
+    same-length-3
+    same-length-4
+    same-length-5
+    returns)

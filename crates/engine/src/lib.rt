@@ -1,0 +1,11 @@
+// The engine of a search: the opening, and the one loop that plays a schedule, event after event. It
+// is an inner step: it may assume what its caller proves.
+pub mod run;
+
+// "The run's answer: number, events used, effective events, d."
+pub struct Answer {
+    pub number: usize,
+    pub used: usize,
+    pub effective: usize,
+    pub layer: usize,
+}

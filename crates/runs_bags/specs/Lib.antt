@@ -1,2 +1,0 @@
--- What the contracts of the program `runs_bags` cite.
-pub mod Family
