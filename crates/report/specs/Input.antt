@@ -1,0 +1,77 @@
+-- The program's input split into its parts, its own sizes, and the numbers that it gives before the search has a word.
+use mathlib.Core.Bool.{_||_}
+use mathlib.Core.List.{List, [], _∷_}
+use Prim.Native.Nat.{ℕ, _+_}
+use lib.Dec.{ltb}
+use lib.ListN.{length, take, drop, replicate}
+use Rattle.numbers.specs.Numbers.{badLength, badSize, shortList}
+use Rattle.numbers.specs.Refusals.{Refusal, _gives_}
+use Rattle.graph.specs.File.{word, vertexCount, edgeCount, fileLength}
+use Rattle.graph.specs.Read.{outsideSizes}
+use Rattle.model.specs.Call.{Lent}
+
+-- "Its own sizes: n 512, m 2,048, sheet 8,192."
+abbrev pub mostVertices : ℕ
+mostVertices = 512
+
+abbrev pub mostEdges : ℕ
+mostEdges = 2048
+
+abbrev pub mostEvents : ℕ
+mostEvents = 8192
+
+-- "Its node lists have 4,097 places each."
+abbrev pub nodePlaces : ℕ
+nodePlaces = 4097
+
+-- "Standard input: words source, P, sheet length, then sheet, then file to the end."
+unfoldable pub sourceIn : List ℕ → ℕ
+sourceIn input = word input 0
+
+unfoldable pub workersIn : List ℕ → ℕ
+workersIn input = word input 1
+
+-- the sheet length
+unfoldable pub eventsIn : List ℕ → ℕ
+eventsIn input = word input 2
+
+-- the sheet
+unfoldable pub scheduleIn : List ℕ → List ℕ
+scheduleIn input = take (eventsIn input) (drop 6 input)
+
+-- the file
+unfoldable pub fileIn : List ℕ → List ℕ
+fileIn input = drop (6 + eventsIn input) input
+
+-- "n or m outside 01's sizes 2, above its own 20"
+unfoldable pub sizesRefusals : ℕ → ℕ → List Refusal
+sizesRefusals n m =
+    outsideSizes n m gives badSize
+    ∷ (ltb mostVertices n || ltb mostEdges m) gives shortList
+    ∷ []
+
+-- "Its order: fewer than three words 1; sheet length too large 20; input ending before 4 bytes of file 1; n or m outside 01's sizes 2, above its
+-- own 20". The rest of it, "file length 1; then as above", is the search's own order, of which 1 (under 4) and 2 are passed then
+unfoldable pub ownRefusals : List ℕ → List Refusal
+ownRefusals input =
+    ltb (length input) 6 gives badLength
+    ∷ ltb mostEvents (eventsIn input) gives shortList
+    ∷ ltb (length (fileIn input)) 4 gives badLength
+    ∷ sizesRefusals (vertexCount (fileIn input)) (edgeCount (fileIn input))
+
+-- the lists that the program lends to the search, as long as its own sizes need
+unfoldable pub programLists : Lent
+programLists = record {
+  offsets = replicate (mostVertices + 1) 0;
+  targets = replicate mostEdges 0;
+  marks = replicate mostEdges 0;
+  distances = replicate mostVertices 0;
+  parents = replicate mostVertices 0;
+  left = replicate nodePlaces 0;
+  right = replicate nodePlaces 0;
+  number = replicate nodePlaces 0;
+}
+
+-- the longest input that can be accepted: three words, the largest sheet, the largest file
+abbrev pub longestInput : ℕ
+longestInput = 6 + mostEvents + fileLength mostVertices mostEdges

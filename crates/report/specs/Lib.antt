@@ -1,0 +1,6 @@
+-- The program: its input split, its output lines, and the bytes that it writes for any input. Read in this order.
+pub mod Input
+pub mod Text
+pub mod Respond
+pub mod Printed
+pub mod Cases

@@ -1,0 +1,52 @@
+-- Every byte that the program writes, for any input.
+use mathlib.Core.Bool.{cond}
+use mathlib.Core.List.{List, [], _++_}
+use Prim.Native.Nat.{ℕ, _+_, _*_}
+use lib.Dec.{eqb, ltb}
+use lib.ListN.{length}
+use Rattle.numbers.specs.Numbers.{success}
+use Rattle.numbers.specs.Refusals.{first}
+use Rattle.lists.specs.Lists.{overlay}
+use Rattle.graph.specs.File.{vertexCount}
+use Rattle.model.specs.Call.{Answer, Outcome, plays, outcomeOfSearch}
+use Rattle.report.specs.Input.{mostVertices, sourceIn, workersIn, scheduleIn, fileIn, ownRefusals, programLists}
+use Rattle.report.specs.Text.{firstLine, vertexLines}
+
+-- "then as above": the search, with the program's lists
+unfoldable pub searched : List ℕ → Outcome
+searched input = outcomeOfSearch (fileIn input) (sourceIn input) (workersIn input) (scheduleIn input) programLists
+
+-- "With 0 or 21, a line for each device ..; otherwise line one is all."
+unfoldable pub lines : ℕ → Outcome → List ℕ
+lines n o =
+    firstLine (o .answer) ++ cond (plays (o .answer .number)) (vertexLines n (o .lent .distances) (o .lent .parents)) []
+
+-- "A refusal other than 21 gives zeros beside its number."
+abbrev pub refusal : ℕ → Answer
+refusal number = record { number = number; used = 0; effective = 0; layer = 0 }
+
+-- the program's output: its own refusals first, then the search's answer
+unfoldable pub response : List ℕ → List ℕ
+response input =
+    let number = first (ownRefusals input) in
+    cond (eqb number success) (lines (vertexCount (fileIn input)) (searched input)) (firstLine (refusal number))
+
+-- room for any output: four numbers of at most 20 digits in line one, a vertex of 3 and two labels of 5 in each other line
+abbrev pub outputPlaces : ℕ
+outputPlaces = 84 + 16 * mostVertices
+
+-- how many bytes were written, and the output list at exit
+pub record RespondOutcome : Type 0 where
+  pub count : ℕ
+  pub output : List ℕ
+
+-- what the call answered, and the list at exit
+abbrev pub respondExit : ℕ → List ℕ → RespondOutcome
+respondExit count output = record { count = count; output = output }
+
+-- the outcome of a call: a list that is too short for some output is left as it was, and nothing counts as written
+unfoldable pub outcomeOfRespond : List ℕ → List ℕ → RespondOutcome
+outcomeOfRespond input output =
+    cond (ltb (length output) outputPlaces)
+    (respondExit 0 output)
+    (respondExit (length (response input)) (overlay (response input) output))

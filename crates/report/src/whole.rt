@@ -1,0 +1,78 @@
+// From input bytes to output bytes.
+ghost use mathlib.Core.Path.{_≡_};
+ghost use Prim.Native.Nat.{_≤_};
+ghost use lib.ListN.{length};
+ghost use Rattle.numbers.specs.Numbers.{success};
+ghost use Rattle.numbers.specs.Refusals.{first};
+ghost use Rattle.graph.specs.File.{vertexCount};
+ghost use Rattle.report.specs.Input.{fileIn, ownRefusals};
+ghost use Rattle.report.specs.Respond.{searched, lines, outputPlaces, respondExit, outcomeOfRespond};
+ghost use Rattle.report.specs.Printed.{Printed};
+use crate::OUTPUT_PLACES;
+use crate::input::own_number;
+use crate::text::put_first_line;
+use crate::text::put_vertex_lines;
+use graph::words::word;
+use search::search;
+
+// The search of an input that the program's own order does not refuse, with the program's lists, and
+// its lines.
+fn explore(input: &[u8], output: &mut [u8]) -> usize
+    requires { ⌜ first (ownRefusals (now input)) ≡ success ⌝ }
+    requires { ⌜ outputPlaces ≤ length (now output) ⌝ }
+    ensures { λ r. ⌜
+        Printed (now (output .entry)) (lines (vertexCount (fileIn (now (input .entry)))) (searched (now (input .entry)))) (now (output .exit)) r
+        ⌝ }
+{
+    let start = 6 + word(input, 2);
+    let file = &input[start..];
+    let mut offsets = [0u16; 513];
+    let mut targets = [0u16; 2048];
+    let mut marks = [0u16; 2048];
+    let mut distances = [0u16; 512];
+    let mut parents = [0u16; 512];
+    let mut left = [0u16; 4097];
+    let mut right = [0u16; 4097];
+    let mut number = [0u16; 4097];
+    let answer = search(
+        file,
+        word(input, 0),
+        word(input, 1),
+        &input[6..start],
+        &mut offsets,
+        &mut targets,
+        &mut marks,
+        &mut distances,
+        &mut parents,
+        &mut left,
+        &mut right,
+        &mut number,
+    );
+    let next = put_first_line(
+        output,
+        answer.number,
+        answer.used,
+        answer.effective,
+        answer.layer,
+    );
+    if answer.number == numbers::SUCCESS || answer.number == numbers::UNFINISHED {
+        return put_vertex_lines(output, next, word(file, 0), &distances, &parents);
+    }
+    next
+}
+
+// The program: what it writes for this input goes to the front of the output, and the answer says how
+// many bytes that is. An output list of less than `OUTPUT_PLACES` places is left as it is.
+pub fn respond(input: &[u8], output: &mut [u8]) -> usize
+    ensures { λ r. ⌜ respondExit r (now (output .exit)) ≡ outcomeOfRespond (now (input .entry)) (now (output .entry)) ⌝ }
+    ensures { λ r. ⌜ r ≤ length (now (output .exit)) ⌝ }
+{
+    if output.len() < OUTPUT_PLACES {
+        return 0;
+    }
+    let number = own_number(input);
+    if number != numbers::SUCCESS {
+        return put_first_line(output, number, 0, 0, 0);
+    }
+    explore(input, output)
+}
