@@ -17,7 +17,7 @@ use Rattle.model.specs.Call.{nodePlaces}
 use Rattle.model.specs.Words.{wordOf, labelsOf}
 use Rattle.model.specs.Demand.{Accepted}
 use Rattle.engine.specs.declared.Answer.{Answer}
-use Rattle.graph.specs.Steps.{Ground}
+use Rattle.graph.specs.Steps.{GraphRows}
 
 -- as many parents as distances, no more than n may be, and node lists for P workers, left of exactly its need
 pub record Sized (P : ℕ) (distances parents left right number : List ℕ) : Type 0 where
@@ -38,7 +38,7 @@ pub record FirstLayer (P source : ℕ) (distances distances′ parents′ left�
 
 -- `run`: what it takes for granted
 pub record Runnable (source P : ℕ) (schedule offsets targets distances parents left right number : List ℕ) : Type 0 where
-  pub rows : Ground offsets targets (length distances)
+  pub rows : GraphRows offsets targets (length distances)
   pub accepted : Accepted (rowsOf offsets targets) source P schedule
   pub few-events : length schedule ≤ maxEvents
   pub sized : Sized P distances parents left right number

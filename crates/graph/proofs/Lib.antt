@@ -2,7 +2,7 @@
 -- the proofs of single functions go by.
 pub mod Bridge
 pub mod WellFormed
-pub mod GroundFacts
+pub mod GraphRowsFacts
 pub mod RoundTrip
 pub mod Cases
 pub mod FileLists

@@ -12,7 +12,7 @@ use Rattle.lists.proofs.Overlay.{overlay-long}
 use Rattle.graph.specs.Graph.{offsetsOf, targetsOf, rowsOf}
 use Rattle.graph.specs.File.{edgeCount, graphOf}
 use Rattle.graph.specs.Read.{writesRows}
-use Rattle.graph.specs.Steps.{Scanned, Unchained, Ground}
+use Rattle.graph.specs.Steps.{Scanned, Unchained, GraphRows}
 use Rattle.graph.proofs.FileLists.{length-graph}
 use Rattle.graph.proofs.Bridge.{graph-again, length-offsets}
 use Rattle.graph.proofs.WellFormed.{scanned-bounded, chains-partitioned, graph-edges, graph-below}
@@ -72,7 +72,7 @@ module _ {file : List ℕ} {n m k : ℕ} {offsets targets marks offsets′ targe
     rows-graph = rw (first-starts, first-ends) (graph-again (graphOf file))
 
     -- each of its targets is a vertex, and it is within the sizes
-    pub rows-ground : Ground (take (n + 1) offsets′) (take m targets′) n
+    pub rows-ground : GraphRows (take (n + 1) offsets′) (take m targets′) n
     rows-ground = record {
       starts = first-starts ∙ ap offsetsOf (sym rows-graph);
       ends = first-ends ∙ ap targetsOf (sym rows-graph);

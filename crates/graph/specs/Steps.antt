@@ -43,8 +43,8 @@ pub record Unchained (file : List ℕ) (m number : ℕ) (offsets₀ targets₀ m
   pub ends : targets ≡ cond (writesRows number) (overlay (targetsOf (graphOf file)) targets₀) targets₀
   pub cleared : marks ≡ overlay (replicate m 0) marks₀
 
--- offsets and targets of a graph of n vertices within the sizes: `rowsOf offsets targets`
-pub record Ground (offsets targets : List ℕ) (n : ℕ) : Type 0 where
+-- offsets and targets of a graph of n vertices, `rowsOf offsets targets`, with no more vertices and edges than the sizes allow
+pub record GraphRows (offsets targets : List ℕ) (n : ℕ) : Type 0 where
   pub starts : offsets ≡ offsetsOf (rowsOf offsets targets)
   pub ends : targets ≡ targetsOf (rowsOf offsets targets)
   pub count : length (rowsOf offsets targets) ≡ n

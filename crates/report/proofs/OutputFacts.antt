@@ -16,10 +16,10 @@ use Rattle.graph.specs.File.{word, vertexCount, edgeCount, fileLength}
 use Rattle.graph.specs.Read.{outsideSizes, headerRefusals}
 use Rattle.model.specs.Call.{Lent, Outcome, plays, searchNumber, searchRefusals, inputRefusals, earlyRefusals}
 use Rattle.model.proofs.Calls.{call-refused}
-use Rattle.report.specs.Input.{mostEvents, sourceIn, workersIn, eventsIn, scheduleIn, fileIn, programLists, longestInput}
+use Rattle.report.specs.Input.{programEvents, sourceIn, workersIn, eventsIn, scheduleIn, fileIn, programLists, longestInput}
 use Rattle.report.specs.Input.{sizesRefusals, ownRefusals}
 use Rattle.report.specs.Text.{firstLine}
-use Rattle.report.specs.Respond.{searched, lines, refusal, response}
+use Rattle.report.specs.Respond.{searched, lines, refusedWith, response}
 use Rattle.report.proofs.InputFacts.{sizes-passed, own-events, own-sizes}
 
 -- Refusals.
@@ -31,7 +31,7 @@ one-line n o e = rw e (append-nil (firstLine (o .answer)))
 
 module _ (input : List ℕ) where
   -- a refusal of the program's own order
-  pub own-line : {number : ℕ} → number ≡ first (ownRefusals input) → (number ≡ success → ⊥) → response input ≡ firstLine (refusal number)
+  pub own-line : {number : ℕ} → number ≡ first (ownRefusals input) → (number ≡ success → ⊥) → response input ≡ firstLine (refusedWith number)
   unfolding response
   own-line {number} e h = rw (← e, ne-eqb number success h)
 
@@ -40,7 +40,7 @@ module _ (input : List ℕ) where
   number = searchNumber (fileIn input) (sourceIn input) (workersIn input) (scheduleIn input) programLists
 
   -- a refusal of the search
-  pub search-line : first (ownRefusals input) ≡ success → plays number ≡ false → response input ≡ firstLine (refusal number)
+  pub search-line : first (ownRefusals input) ≡ success → plays number ≡ false → response input ≡ firstLine (refusedWith number)
   unfolding response searched
   search-line e h =
       let told = call-refused (fileIn input) (sourceIn input) (workersIn input) (scheduleIn input) programLists h in
@@ -85,7 +85,7 @@ last-length n m e = first-append (sizesRefusals n m) (true gives badLength ∷ [
 
 module _ (input : List ℕ) (long : longestInput < length input) where
   -- 20 where its schedule is too long
-  long-events : mostEvents < eventsIn input → response input ≡ firstLine (refusal shortList)
+  long-events : programEvents < eventsIn input → response input ≡ firstLine (refusedWith shortList)
   unfolding eventsIn
   long-events h = own-line input (own-events input (omega arith) refl h) (λ z. absurd (omega arith))
 
@@ -102,7 +102,7 @@ module _ (input : List ℕ) (long : longestInput < length input) where
   m = edgeCount file
 
   -- otherwise by n and m
-  long-file : eventsIn input ≤ mostEvents → response input ≡ firstLine (refusal (lastNumber n m))
+  long-file : eventsIn input ≤ programEvents → response input ≡ firstLine (refusedWith (lastNumber n m))
   unfolding eventsIn fileIn vertexCount edgeCount
   long-file few = go (first (sizesRefusals n m)) refl
     where
@@ -112,14 +112,14 @@ module _ (input : List ℕ) (long : longestInput < length input) where
       size : length file + (6 + eventsIn input) ≡ length input
       size = omega (arith, length-drop (6 + eventsIn input) input)
 
-      go : (k : ℕ) → first (sizesRefusals n m) ≡ k → response input ≡ firstLine (refusal (lastNumber n m))
+      go : (k : ℕ) → first (sizesRefusals n m) ≡ k → response input ≡ firstLine (refusedWith (lastNumber n m))
       go zero e =
           let fit = sizes-passed n m e in
           let one = too-long file (sourceIn input) (workersIn input) (scheduleIn input) programLists (omega (arith, size)) (fit .inside)
           (omega (arith, size, fit .few-vertices, fit .few-edges)) in
-          search-line input (sym own ∙ e) (ap plays one ∙ length-refused) ∙ ap (λ (x : ℕ). firstLine (refusal x)) (one ∙ sym (last-length n m e))
+          search-line input (sym own ∙ e) (ap plays one ∙ length-refused) ∙ ap (λ (x : ℕ). firstLine (refusedWith x)) (one ∙ sym (last-length n m e))
       go (suc k) e =
-          own-line input (sym e ∙ own) (λ z. absurd (omega arith)) ∙ ap (λ (x : ℕ). firstLine (refusal x)) (sym (last-sizes n m e))
+          own-line input (sym e ∙ own) (λ z. absurd (omega arith)) ∙ ap (λ (x : ℕ). firstLine (refusedWith x)) (sym (last-sizes n m e))
 
 -- A list's first bytes.
 
@@ -148,24 +148,24 @@ module _ (input : List ℕ) (k : ℕ) (far : longestInput < k) (there : k ≤ le
   events = part-word 0 k input 2 (omega arith)
 
   -- the file has the same n and m
-  same : eventsIn input ≤ mostEvents → (i : ℕ) → i ≤ 1 → word (fileIn short) i ≡ word (fileIn input) i
+  same : eventsIn input ≤ programEvents → (i : ℕ) → i ≤ 1 → word (fileIn short) i ≡ word (fileIn input) i
   unfolding fileIn
   same few i h = rw events (part-word (6 + eventsIn input) k input i (omega arith))
 
   -- they are answered as the input is
   pub long-part : response short ≡ response input
   unfolding vertexCount edgeCount
-  long-part = go (ltb mostEvents (eventsIn input)) refl
+  long-part = go (ltb programEvents (eventsIn input)) refl
     where
-      go : (b : Bool) → ltb mostEvents (eventsIn input) ≡ b → response short ≡ response input
+      go : (b : Bool) → ltb programEvents (eventsIn input) ≡ b → response short ≡ response input
       go true e =
-          let many = ltb-true mostEvents (eventsIn input) e in
+          let many = ltb-true programEvents (eventsIn input) e in
           long-events short (omega (arith, size)) (omega (arith, events)) ∙ sym (long-events input (omega arith) many)
       go false e =
-          let few = ltb-false mostEvents (eventsIn input) e in
+          let few = ltb-false programEvents (eventsIn input) e in
           long-file short (omega (arith, size)) (omega (arith, events))
-          ∙ ap (λ (n : ℕ). firstLine (refusal (lastNumber n (word (fileIn short) 1)))) (same few 0 (omega arith))
-          ∙ ap (λ (m : ℕ). firstLine (refusal (lastNumber (word (fileIn input) 0) m))) (same few 1 (omega arith))
+          ∙ ap (λ (n : ℕ). firstLine (refusedWith (lastNumber n (word (fileIn short) 1)))) (same few 0 (omega arith))
+          ∙ ap (λ (m : ℕ). firstLine (refusedWith (lastNumber (word (fileIn input) 0) m))) (same few 1 (omega arith))
           ∙ sym (long-file input (omega arith) few)
 
 -- so the program may stop reading one byte past that length

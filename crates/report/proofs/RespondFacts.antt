@@ -17,7 +17,7 @@ use Rattle.engine.specs.declared.Answer.{Answer}
 use Rattle.search.specs.Promise.{searchExit}
 use Rattle.report.specs.Input.{sourceIn, workersIn, eventsIn, scheduleIn, fileIn, ownRefusals, programLists}
 use Rattle.report.specs.Text.{firstLine, vertexLines}
-use Rattle.report.specs.Respond.{searched, lines, refusal, response, outputPlaces, respondExit, outcomeOfRespond}
+use Rattle.report.specs.Respond.{searched, lines, refusedWith, response, outputPlaces, respondExit, outcomeOfRespond}
 use Rattle.report.specs.Printed.{Printed, Prints}
 use Rattle.report.proofs.TextFacts.{prints-start}
 use Rattle.report.proofs.OutputFacts.{one-line, own-line}
@@ -59,17 +59,17 @@ module _ (input output : List ℕ) {r : Answer} {after : Lent} (told : searchExi
   line = firstLine (record { number = r .number; used = r .used; effective = r .effective; layer = r .layer })
 
   -- line one is all
-  pub explore-line : {next : ℕ} {output′ : List ℕ} → plays (r .number) ≡ false → Prints line output 0 output′ next
+  pub search-and-print-line : {next : ℕ} {output′ : List ℕ} → plays (r .number) ≡ false → Prints line output 0 output′ next
       → Printed output (lines (vertexCount (fileIn input)) (searched input)) output′ next
-  explore-line e p =
+  search-and-print-line e p =
       rw (← told, one-line (vertexCount (fileIn input)) (searchExit r after) e) (p output [] (prints-start output))
 
   -- the vertices' lines follow
-  pub explore-lines : {n next at : ℕ} {middle output′ : List ℕ} → plays (r .number) ≡ true → n ≡ vertexCount (fileIn input)
+  pub search-and-print-lines : {n next at : ℕ} {middle output′ : List ℕ} → plays (r .number) ≡ true → n ≡ vertexCount (fileIn input)
       → Prints line output 0 middle next → Prints (vertexLines n (after .distances) (after .parents)) middle next output′ at
       → Printed output (lines (vertexCount (fileIn input)) (searched input)) output′ at
   unfolding lines
-  explore-lines {n} {next} {at} {middle} {output′} e k p q =
+  search-and-print-lines {n} {next} {at} {middle} {output′} e k p q =
       rw (← told, ← k, e) (q output line (p output [] (prints-start output)))
 
 -- The whole answer.
@@ -91,7 +91,7 @@ module _ (input output : List ℕ) where
 
     -- a refusal of the program's own order
     pub respond-refused : {number : ℕ} → number ≡ first (ownRefusals input) → (number ≡ success → ⊥)
-        → Prints (firstLine (refusal number)) output 0 output′ count
+        → Prints (firstLine (refusedWith number)) output 0 output′ count
         → (respondExit count output′ ≡ outcomeOfRespond input output) × (count ≤ length output′)
     respond-refused e h p = respond-printed (rw (own-line input e h) (p output [] (prints-start output)))
 

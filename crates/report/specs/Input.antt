@@ -10,24 +10,27 @@ use Rattle.graph.specs.File.{word, vertexCount, edgeCount, fileLength}
 use Rattle.graph.specs.Read.{outsideSizes}
 use Rattle.model.specs.Call.{Lent}
 
--- "Its own sizes: n 512, m 2,048, sheet 8,192."
-abbrev pub mostVertices : ℕ
-mostVertices = 512
+-- "Its own sizes: n 512 .."
+abbrev pub programVertices : ℕ
+programVertices = 512
 
-abbrev pub mostEdges : ℕ
-mostEdges = 2048
+-- ".. m 2,048 .."
+abbrev pub programEdges : ℕ
+programEdges = 2048
 
-abbrev pub mostEvents : ℕ
-mostEvents = 8192
+-- ".. sheet 8,192."
+abbrev pub programEvents : ℕ
+programEvents = 8192
 
 -- "Its node lists have 4,097 places each."
-abbrev pub nodePlaces : ℕ
-nodePlaces = 4097
+abbrev pub programNodes : ℕ
+programNodes = 4097
 
--- "Standard input: words source, P, sheet length, then sheet, then file to the end."
+-- "Standard input: words source, P, sheet length, then sheet, then file to the end.": the source
 unfoldable pub sourceIn : List ℕ → ℕ
 sourceIn input = word input 0
 
+-- P
 unfoldable pub workersIn : List ℕ → ℕ
 workersIn input = word input 1
 
@@ -47,7 +50,7 @@ fileIn input = drop (6 + eventsIn input) input
 unfoldable pub sizesRefusals : ℕ → ℕ → List Refusal
 sizesRefusals n m =
     outsideSizes n m gives badSize
-    ∷ (ltb mostVertices n || ltb mostEdges m) gives shortList
+    ∷ (ltb programVertices n || ltb programEdges m) gives shortList
     ∷ []
 
 -- "Its order: fewer than three words 1; sheet length too large 20; input ending before 4 bytes of file 1; n or m outside 01's sizes 2, above its
@@ -55,23 +58,23 @@ sizesRefusals n m =
 unfoldable pub ownRefusals : List ℕ → List Refusal
 ownRefusals input =
     ltb (length input) 6 gives badLength
-    ∷ ltb mostEvents (eventsIn input) gives shortList
+    ∷ ltb programEvents (eventsIn input) gives shortList
     ∷ ltb (length (fileIn input)) 4 gives badLength
     ∷ sizesRefusals (vertexCount (fileIn input)) (edgeCount (fileIn input))
 
 -- the lists that the program lends to the search, as long as its own sizes need
 unfoldable pub programLists : Lent
 programLists = record {
-  offsets = replicate (mostVertices + 1) 0;
-  targets = replicate mostEdges 0;
-  marks = replicate mostEdges 0;
-  distances = replicate mostVertices 0;
-  parents = replicate mostVertices 0;
-  left = replicate nodePlaces 0;
-  right = replicate nodePlaces 0;
-  number = replicate nodePlaces 0;
+  offsets = replicate (programVertices + 1) 0;
+  targets = replicate programEdges 0;
+  marks = replicate programEdges 0;
+  distances = replicate programVertices 0;
+  parents = replicate programVertices 0;
+  left = replicate programNodes 0;
+  right = replicate programNodes 0;
+  number = replicate programNodes 0;
 }
 
 -- the longest input that can be accepted: three words, the largest sheet, the largest file
 abbrev pub longestInput : ℕ
-longestInput = 6 + mostEvents + fileLength mostVertices mostEdges
+longestInput = 6 + programEvents + fileLength programVertices programEdges

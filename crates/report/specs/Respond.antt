@@ -9,7 +9,7 @@ use Rattle.numbers.specs.Refusals.{first}
 use Rattle.lists.specs.Lists.{overlay}
 use Rattle.graph.specs.File.{vertexCount}
 use Rattle.model.specs.Call.{Answer, Outcome, plays, outcomeOfSearch}
-use Rattle.report.specs.Input.{mostVertices, sourceIn, workersIn, scheduleIn, fileIn, ownRefusals, programLists}
+use Rattle.report.specs.Input.{programVertices, sourceIn, workersIn, scheduleIn, fileIn, ownRefusals, programLists}
 use Rattle.report.specs.Text.{firstLine, vertexLines}
 
 -- "then as above": the search, with the program's lists
@@ -22,18 +22,18 @@ lines n o =
     firstLine (o .answer) ++ cond (plays (o .answer .number)) (vertexLines n (o .lent .distances) (o .lent .parents)) []
 
 -- "A refusal other than 21 gives zeros beside its number."
-abbrev pub refusal : ℕ → Answer
-refusal number = record { number = number; used = 0; effective = 0; layer = 0 }
+abbrev pub refusedWith : ℕ → Answer
+refusedWith number = record { number = number; used = 0; effective = 0; layer = 0 }
 
 -- the program's output: its own refusals first, then the search's answer
 unfoldable pub response : List ℕ → List ℕ
 response input =
     let number = first (ownRefusals input) in
-    cond (eqb number success) (lines (vertexCount (fileIn input)) (searched input)) (firstLine (refusal number))
+    cond (eqb number success) (lines (vertexCount (fileIn input)) (searched input)) (firstLine (refusedWith number))
 
 -- room for any output: four numbers of at most 20 digits in line one, a vertex of 3 and two labels of 5 in each other line
 abbrev pub outputPlaces : ℕ
-outputPlaces = 84 + 16 * mostVertices
+outputPlaces = 84 + 16 * programVertices
 
 -- how many bytes were written, and the output list at exit
 pub record RespondOutcome : Type 0 where

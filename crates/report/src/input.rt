@@ -2,9 +2,9 @@
 ghost use mathlib.Core.Path.{_≡_};
 ghost use Rattle.numbers.specs.Refusals.{first};
 ghost use Rattle.report.specs.Input.{sizesRefusals, ownRefusals};
-use crate::MOST_EDGES;
-use crate::MOST_EVENTS;
-use crate::MOST_VERTICES;
+use crate::PROGRAM_EDGES;
+use crate::PROGRAM_EVENTS;
+use crate::PROGRAM_VERTICES;
 use graph::steps;
 use graph::words::word;
 
@@ -15,10 +15,10 @@ fn sizes_number(n: usize, m: usize) -> usize
     if steps::outside_sizes(n, m) {
         return numbers::BAD_SIZE;
     }
-    if MOST_VERTICES < n {
+    if PROGRAM_VERTICES < n {
         return numbers::SHORT_LIST;
     }
-    if MOST_EDGES < m {
+    if PROGRAM_EDGES < m {
         return numbers::SHORT_LIST;
     }
     numbers::SUCCESS
@@ -33,7 +33,7 @@ pub fn own_number(input: &[u8]) -> usize
         return numbers::BAD_LENGTH;
     }
     let events = word(input, 2);
-    if MOST_EVENTS < events {
+    if PROGRAM_EVENTS < events {
         return numbers::SHORT_LIST;
     }
     let start = 6 + events;

@@ -5,19 +5,24 @@ ghost use mathlib.Core.List.{[], _∷_, _++_};
 ghost use Prim.Native.Nat.{_+_, _*_, _<_, _≤_};
 ghost use lib.ListN.{length, getD};
 ghost use Rattle.model.specs.Call as call;
-ghost use Rattle.report.specs.Input.{mostVertices};
+ghost use Rattle.report.specs.Input.{programVertices};
 ghost use Rattle.report.specs.Text.{space, lineFeed, decimal, labelText, firstLine, vertexLine, vertexLines};
 ghost use Rattle.report.specs.Printed.{Prints};
 use graph::words::element;
 
+// Between the fields of a line.
 const SPACE: u8 = 32;
 
+// At the end of a line.
 const LINE_FEED: u8 = 10;
 
+// For unset.
 const DASH: u8 = 45;
 
+// An unset distance or parent, among words made wide.
 const UNSET: usize = numbers::UNSET as usize;
 
+// One byte.
 fn put_byte(output: &mut [u8], at: usize, byte: u8) -> usize
     requires { ⌜ at < length (now output) ⌝ }
     ensures { λ r. ⌜ r ≡ at + 1 ⌝ }
@@ -53,26 +58,26 @@ fn put_number(output: &mut [u8], at: usize, x: usize) -> usize
 }
 
 // A number, and a space or a line feed behind it.
-fn put_field(output: &mut [u8], at: usize, x: usize, end: u8) -> usize
+fn put_field(output: &mut [u8], at: usize, x: usize, delimiter: u8) -> usize
     requires { ⌜ at + length (decimal x) < length (now output) ⌝ }
     ensures { λ r. ⌜ r ≡ at + length (decimal x) + 1 ⌝ }
-    ensures { λ r. ⌜ Prints (decimal x ++ (end ∷ [])) (now (output .entry)) at (now (output .exit)) r ⌝ }
+    ensures { λ r. ⌜ Prints (decimal x ++ (delimiter ∷ [])) (now (output .entry)) at (now (output .exit)) r ⌝ }
 {
     let next = put_number(output, at, x);
-    put_byte(output, next, end)
+    put_byte(output, next, delimiter)
 }
 
 // A distance or a parent, `-` for unset, and a space or a line feed behind it.
-fn put_label(output: &mut [u8], at: usize, word: usize, end: u8) -> usize
+fn put_label(output: &mut [u8], at: usize, word: usize, delimiter: u8) -> usize
     requires { ⌜ at + length (labelText word) < length (now output) ⌝ }
     ensures { λ r. ⌜ r ≡ at + length (labelText word) + 1 ⌝ }
-    ensures { λ r. ⌜ Prints (labelText word ++ (end ∷ [])) (now (output .entry)) at (now (output .exit)) r ⌝ }
+    ensures { λ r. ⌜ Prints (labelText word ++ (delimiter ∷ [])) (now (output .entry)) at (now (output .exit)) r ⌝ }
 {
     if word == UNSET {
         let next = put_byte(output, at, DASH);
-        return put_byte(output, next, end);
+        return put_byte(output, next, delimiter);
     }
-    put_field(output, at, word, end)
+    put_field(output, at, word, delimiter)
 }
 
 // Line one: number, events used, effective, d.
@@ -125,7 +130,7 @@ pub fn put_vertex_lines(
     parents: &[u16],
 ) -> usize
     requires { ⌜ at + 16 * n ≤ length (now output) ⌝ }
-    requires { ⌜ n ≤ mostVertices ⌝ }
+    requires { ⌜ n ≤ programVertices ⌝ }
     requires { ⌜ n ≤ length (now distances) ⌝ }
     requires { ⌜ n ≤ length (now parents) ⌝ }
     ensures { λ r. ⌜

@@ -22,7 +22,7 @@ use Rattle.model.specs.Play.{play}
 use Rattle.model.specs.Call.{Lent, Lengths, lengthsOf, earlyRefusals, Outcome, nodePlaces, runOf, inputRefusals, searchRefusals, searchNumber, plays, outcomeOfSearch}
 use Rattle.model.proofs.Calls.{early-positive, call-parts, call-accepted, call-number, call-played, call-refused}
 use Rattle.engine.specs.declared.Answer.{Answer}
-use Rattle.search.specs.Played.{refusal, Playable, PlayedOut}
+use Rattle.search.specs.Played.{refusedWith, Playable, PlayedOut}
 use Rattle.search.specs.Input.{earlyAnswer}
 use Rattle.search.specs.Promise.{lentLists, searchExit}
 use Rattle.search.proofs.JudgeFacts.{Passed, early-number, early-passed}
@@ -78,7 +78,7 @@ module _ (file : List ℕ) (source P : ℕ) (schedule : List ℕ) (lent : Lent) 
 
   -- the outcome of a refusal, with these marks
   abbrev refusedExit : ℕ → List ℕ → Outcome
-  refusedExit k marks = searchExit (refusal k)
+  refusedExit k marks = searchExit (refusedWith k)
       (lentLists (lent .offsets) (lent .targets) marks (lent .distances) (lent .parents) (lent .left) (lent .right) (lent .number))
 
   -- a number that plays nothing has that outcome
@@ -92,7 +92,7 @@ module _ (file : List ℕ) (source P : ℕ) (schedule : List ℕ) (lent : Lent) 
 
   module _ {head : ReadAnswer} (judged : head ≡ earlyAnswer file source P schedule (lengthsOf lent)) where
     -- a refusal before the chains are walked
-    pub search-early : {r : Answer} → (head .number ≡ 0 → ⊥) → r ≡ refusal (head .number) → searchExit r lent ≡ outcomeOfSearch file source P schedule lent
+    pub search-early : {r : Answer} → (head .number ≡ 0 → ⊥) → r ≡ refusedWith (head .number) → searchExit r lent ≡ outcomeOfSearch file source P schedule lent
     search-early h e =
         let k = first early in
         let same : head .number ≡ k = early-number file source P schedule (lengthsOf lent) judged in
@@ -100,7 +100,7 @@ module _ (file : List ℕ) (source P : ℕ) (schedule : List ℕ) (lent : Lent) 
         let stopped : first (early ++ chainRefusals file) ≡ k = first-append-stop early (chainRefusals file) (omega arith) in
         let none = early-plays file source P schedule (lengthsOf lent) found in
         let all : number ≡ k = number-parts ∙ first-append-stop (early ++ chainRefusals file) last (omega arith) ∙ stopped in
-        ap (λ (x : Answer). searchExit x lent) (e ∙ ap refusal same) ∙ refused-outcome false all (none .0) (none .1) refl
+        ap (λ (x : Answer). searchExit x lent) (e ∙ ap refusedWith same) ∙ refused-outcome false all (none .0) (none .1) refl
 
     module _ (passed : head .number ≡ 0) where
       -- what the judgement tells
@@ -117,7 +117,7 @@ module _ (file : List ℕ) (source P : ℕ) (schedule : List ℕ) (lent : Lent) 
       module _ {k : ℕ} {offsets′ targets′ marks′ : List ℕ}
           (walked : Unchained file (head .edges) k (lent .offsets) (lent .targets) (lent .marks) offsets′ targets′ marks′) where
         -- a refusal of the chains
-        pub search-chains : {r : Answer} → (k ≡ 0 → ⊥) → r ≡ refusal k
+        pub search-chains : {r : Answer} → (k ≡ 0 → ⊥) → r ≡ refusedWith k
             → searchExit r (lentLists offsets′ targets′ marks′ (lent .distances) (lent .parents) (lent .left) (lent .right) (lent .number))
             ≡ outcomeOfSearch file source P schedule lent
         search-chains h e =
@@ -127,7 +127,7 @@ module _ (file : List ℕ) (source P : ℕ) (schedule : List ℕ) (lent : Lent) 
             let all : number ≡ first (chainRefusals file) = number-later ∙ first-append-stop (chainRefusals file) last (omega arith) in
             let starts = starts-kept (told .scanned) walked h in
             let ends = ends-kept (told .scanned) walked h in
-            (λ i. searchExit ((e ∙ ap refusal same) i)
+            (λ i. searchExit ((e ∙ ap refusedWith same) i)
             (lentLists (starts i) (ends i) marks′ (lent .distances) (lent .parents) (lent .left) (lent .right) (lent .number)))
             ∙ refused-outcome true all (none .0) (none .1) (marks-clear (told .scanned) walked)
 

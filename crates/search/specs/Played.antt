@@ -7,7 +7,7 @@ use lib.ListN.{length, take, replicate}
 use Rattle.numbers.specs.Numbers.{maxEvents}
 use Rattle.lists.specs.Lists.{overlay}
 use Rattle.graph.specs.Graph.{rowsOf}
-use Rattle.graph.specs.Steps.{Ground}
+use Rattle.graph.specs.Steps.{GraphRows}
 use Rattle.model.specs.Play.{Run}
 use Rattle.model.specs.Call.{nodePlaces}
 use Rattle.model.specs.Words.{wordOf}
@@ -16,12 +16,12 @@ use Rattle.engine.specs.declared.Answer.{Answer}
 use Rattle.engine.specs.Runs.{answerOf, Told}
 
 -- "A refusal other than 21 gives zeros beside its number."
-abbrev pub refusal : ℕ → Answer
-refusal number = answerOf number 0 0 0
+abbrev pub refusedWith : ℕ → Answer
+refusedWith number = answerOf number 0 0 0
 
 -- `play`: what it takes for granted: of the first places of longer lists, what `run` does of whole ones
 pub record Playable (n m source P : ℕ) (schedule offsets targets distances parents left right number : List ℕ) : Type 0 where
-  pub rows : Ground (take (n + 1) offsets) (take m targets) n
+  pub rows : GraphRows (take (n + 1) offsets) (take m targets) n
   pub accepted : Accepted (rowsOf (take (n + 1) offsets) (take m targets)) source P schedule
   pub few-events : length schedule ≤ maxEvents
   pub offsets-there : n + 1 ≤ length offsets

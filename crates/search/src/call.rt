@@ -7,7 +7,7 @@ ghost use Rattle.numbers.specs.Numbers.{maxVertices, maxWorkers};
 ghost use Rattle.graph.specs.Graph.{rowsOf};
 ghost use Rattle.model.specs.Call.{nodePlaces, lengthsShort, outcomeOfSearch};
 ghost use Rattle.model.specs.Play as model;
-ghost use Rattle.search.specs.Played.{refusal, Playable, PlayedOut};
+ghost use Rattle.search.specs.Played.{refusedWith, Playable, PlayedOut};
 ghost use Rattle.search.specs.Input.{lengthsIn, earlyAnswer};
 ghost use Rattle.search.specs.Promise.{lentLists, searchExit, Kept};
 use crate::Lengths;
@@ -18,7 +18,7 @@ use graph::steps;
 
 // Zeros beside a refusal's number.
 fn refuse(number: usize) -> Answer
-    ensures { λ r. ⌜ r ≡ refusal number ⌝ }
+    ensures { λ r. ⌜ r ≡ refusedWith number ⌝ }
 {
     Answer {
         number,
@@ -57,25 +57,25 @@ fn judge(
 ) -> ReadAnswer
     ensures { λ r. ⌜ r ≡ earlyAnswer (now (file .entry)) source workers (now (schedule .entry)) (lengthsIn lengths) ⌝ }
 {
-    let head = steps::header(file);
-    if head.number != numbers::SUCCESS {
-        return head;
+    let header = steps::header(file);
+    if header.number != numbers::SUCCESS {
+        return header;
     }
-    let scanned = steps::scan(file, head.vertices, head.edges);
+    let scanned = steps::scan(file, header.vertices, header.edges);
     if scanned != numbers::SUCCESS {
         return steps::refused(scanned);
     }
-    if head.vertices <= source {
+    if header.vertices <= source {
         return steps::refused(numbers::BAD_SOURCE);
     }
     let formed = schedule::schedule_number(schedule, workers);
     if formed != numbers::SUCCESS {
         return steps::refused(formed);
     }
-    if lengths_short(head.vertices, head.edges, workers, lengths) {
+    if lengths_short(header.vertices, header.edges, workers, lengths) {
         return steps::refused(numbers::SHORT_LIST);
     }
-    head
+    header
 }
 
 // Plays the schedule on the parts of the lists that it needs, then clears the nodes' parts.
@@ -103,12 +103,12 @@ fn play(
         ⌝ }
 {
     let places = workers * n + 1;
-    let starts = n + 1;
+    let offset_count = n + 1;
     let answer = run(
         source as u16,
         workers,
         schedule,
-        &offsets[..starts],
+        &offsets[..offset_count],
         &targets[..m],
         &mut distances[..n],
         &mut parents[..n],
@@ -162,12 +162,12 @@ pub fn search(
         right: right.len(),
         number: number.len(),
     };
-    let head = judge(file, source, workers, schedule, lengths);
-    if head.number != numbers::SUCCESS {
-        return refuse(head.number);
+    let judged = judge(file, source, workers, schedule, lengths);
+    if judged.number != numbers::SUCCESS {
+        return refuse(judged.number);
     }
-    let n = head.vertices;
-    let m = head.edges;
+    let n = judged.vertices;
+    let m = judged.edges;
     let chained = steps::unchain(file, n, m, offsets, targets, marks);
     if chained != numbers::SUCCESS {
         return refuse(chained);

@@ -1,5 +1,5 @@
 -- The result of every search that answered 0 passes the checker: its input passed the checker's tests, and its result is right.
-use mathlib.Core.Path.{_≡_, sym, ap, _∙_}
+use mathlib.Core.Path.{_≡_, refl, sym, ap, _∙_, subst}
 use mathlib.Core.List.{List, map}
 use mathlib.Core.Bool.{true, false}
 use Prim.Native.Nat.{ℕ, _≤_}
@@ -16,13 +16,14 @@ use Rattle.graph.specs.Read.{rowsShort}
 use Rattle.graph.proofs.FileLists.{length-graph}
 use Rattle.graph.proofs.WellFormed.{needs-met}
 use Rattle.graph.proofs.Bridge.{length-offsets}
+use Rattle.model.specs.Paths.{Labels, RightResult}
 use Rattle.model.specs.Words.{optionOf, labelsOf, labelsIn}
 use Rattle.model.specs.Call as call
 use Rattle.model.proofs.Calls.{call-passed, call-parts, call-sizes, call-played}
 use Rattle.engine.specs.declared.Answer.{Answer}
 use Rattle.search.specs.Promise.{searchExit}
 use Rattle.search.proofs.KeptFacts.{call-keeps, played, success-plays}
-use Rattle.verify.specs.Check.{Lent, Outcome, lentAfter, checkNumber, outcomeOfCheck, judges}
+use Rattle.verify.specs.Check.{CheckLent, CheckOutcome, lentAfterCheck, checkNumber, outcomeOfCheck, judges}
 use Rattle.verify.specs.Promise.{RightLists}
 use Rattle.verify.proofs.Judging.{parts-passed, number-right}
 use Rattle.search_checked.specs.Checked.{rowLists, Accepts}
@@ -41,34 +42,39 @@ module _ (file : List ℕ) (source P : ℕ) (schedule : List ℕ) (lent : call.L
   right : RightLists file source (after .distances) (after .parents)
   right = call-keeps file source P schedule lent e .right-result z
 
-  -- there is a distance for each vertex
-  distances-there : vertexCount file ≤ length (after .distances)
-  unfolding labelsIn labelsOf
-  distances-there = places-there (vertexCount file) (length (graphOf file)) (after .distances) (right .distances-all) (sym (length-graph file))
+  -- The check of lists with the same labels.
+  module _ (distances parents : List ℕ)
+      (same : labelsIn (vertexCount file) distances parents ≡ labelsIn (vertexCount file) (after .distances) (after .parents)) where
+    -- they are right too
+    same-right : RightLists file source distances parents
+    same-right = subst (λ (x : Labels). RightResult (graphOf file) source x) (sym same) right
 
-  -- and a parent
-  parents-there : vertexCount file ≤ length (after .parents)
-  unfolding labelsIn labelsOf
-  parents-there = places-there (vertexCount file) (length (graphOf file)) (after .parents) (right .parents-all) (sym (length-graph file))
+    -- there is a distance for each vertex
+    distances-there : vertexCount file ≤ length distances
+    unfolding labelsIn labelsOf
+    distances-there = places-there (vertexCount file) (length (graphOf file)) distances (same-right .distances-all) (sym (length-graph file))
 
-  -- The check.
+    -- and a parent
+    parents-there : vertexCount file ≤ length parents
+    unfolding labelsIn labelsOf
+    parents-there = places-there (vertexCount file) (length (graphOf file)) parents (same-right .parents-all) (sym (length-graph file))
 
-  -- lent lists that are not short, it answers 0
-  number-zero : (other : Lent)
-      → rowsShort (vertexCount file) (edgeCount file) (length (other .offsets)) (length (other .targets)) (length (other .marks)) ≡ false
-      → checkNumber file source (after .distances) (after .parents) other ≡ success
-  number-zero other long =
-      let tests = call-parts file source P schedule lent (call-passed file source P schedule lent has-played) in
-      let passed = parts-passed file source (after .distances) (after .parents) other (record {
-        header = tests .header;
-        scan = tests .scan;
-        source-below = leb-false (vertexCount file) source (tests .source-test);
-        rows-there = long;
-        distances-there = distances-there;
-        parents-there = parents-there;
-        whole = tests .whole;
-      }) in
-      number-right file source (after .distances) (after .parents) other passed right
+    -- lent lists that are not short, it answers 0
+    number-zero : (other : CheckLent)
+        → rowsShort (vertexCount file) (edgeCount file) (length (other .offsets)) (length (other .targets)) (length (other .marks)) ≡ false
+        → checkNumber file source distances parents other ≡ success
+    number-zero other long =
+        let tests = call-parts file source P schedule lent (call-passed file source P schedule lent has-played) in
+        let passed = parts-passed file source distances parents other (record {
+          header = tests .header;
+          scan = tests .scan;
+          source-below = leb-false (vertexCount file) source (tests .source-test);
+          rows-there = long;
+          distances-there = distances-there;
+          parents-there = parents-there;
+          whole = tests .whole;
+        }) in
+        number-right file source distances parents other passed same-right
 
   -- The search's own lists.
 
@@ -96,8 +102,8 @@ module _ (file : List ℕ) (source P : ℕ) (schedule : List ℕ) (lent : call.L
       (rw cleared (omega (arith, overlay-long zeros (lent .marks), length-replicate {A = ℕ} (edgeCount file) 0)))
 
   -- and a check that answers 0 writes what is there
-  own-kept : lentAfter success file (rowLists after) ≡ rowLists after
-  unfolding lentAfter judges elem
+  own-kept : lentAfterCheck success file (rowLists after) ≡ rowLists after
+  unfolding lentAfterCheck judges elem
   own-kept =
       let g = graphOf file in
       sym (λ i. record {
@@ -110,10 +116,11 @@ module _ (file : List ℕ) (source P : ℕ) (schedule : List ℕ) (lent : call.L
   pub search-checked : Accepts file source after
   unfolding outcomeOfCheck
   search-checked = record {
-    any-lists = λ other long answered. ap (λ (o : Outcome). o .number) answered ∙ number-zero other long;
+    any-lists = λ distances parents same other long answered.
+        ap (λ (o : CheckOutcome). o .number) answered ∙ number-zero distances parents same other long;
     own-lists = λ answered.
-        let zeroth = number-zero (rowLists after) own-long in (
-          ap (λ (o : Outcome). o .number) answered ∙ zeroth,
-          ap (λ (o : Outcome). o .lent) answered ∙ ap (λ (k : ℕ). lentAfter k file (rowLists after)) zeroth ∙ own-kept,
+        let zeroth = number-zero (after .distances) (after .parents) refl (rowLists after) own-long in (
+          ap (λ (o : CheckOutcome). o .number) answered ∙ zeroth,
+          ap (λ (o : CheckOutcome). o .lent) answered ∙ ap (λ (k : ℕ). lentAfterCheck k file (rowLists after)) zeroth ∙ own-kept,
         );
   }

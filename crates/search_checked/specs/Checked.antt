@@ -8,22 +8,26 @@ use Rattle.numbers.specs.Numbers.{success}
 use Rattle.graph.specs.File.{vertexCount, edgeCount}
 use Rattle.graph.specs.Read.{rowsShort}
 use Rattle.model.specs.Call as call
-use Rattle.verify.specs.Check.{Lent, outcomeOfCheck}
+use Rattle.model.specs.Words.{labelsIn}
+use Rattle.verify.specs.Check.{CheckLent, outcomeOfCheck}
 use Rattle.verify.specs.Promise.{checkExit}
 
 -- the lists of a search that the checker needs too
-abbrev pub rowLists : call.Lent → Lent
+abbrev pub rowLists : call.Lent → CheckLent
 rowLists after = record { offsets = after .offsets; targets = after .targets; marks = after .marks }
 
--- a check, by its contract: with these distances and parents, lent these lists, it answered this number and left the lists so
-abbrev pub CheckAnswers : List ℕ → ℕ → call.Lent → Lent → ℕ → Lent → Type 0
-CheckAnswers file source after lent number left = checkExit number left ≡ outcomeOfCheck file source (after .distances) (after .parents) lent
+-- a check, by its contract: of these distances and parents, lent these lists, it answered this number and left the lists so
+abbrev pub CheckAnswers : List ℕ → ℕ → List ℕ → List ℕ → CheckLent → ℕ → CheckLent → Type 0
+CheckAnswers file source distances parents lent number left = checkExit number left ≡ outcomeOfCheck file source distances parents lent
 
--- every check of this file and source, and of the distances and parents that were left, finds them right
+-- every check of this file and source, and of the labels that were left, finds them right
 pub record Accepts (file : List ℕ) (source : ℕ) (after : call.Lent) : Type 0 where
-  -- with any lists that are not short
-  pub any-lists : (lent : Lent) {left : Lent} {number : ℕ}
+  -- with any lists that are not short, of any two lists that have the search's labels in their first n places
+  pub any-lists : (distances parents : List ℕ)
+      → labelsIn (vertexCount file) distances parents ≡ labelsIn (vertexCount file) (after .distances) (after .parents)
+      → (lent : CheckLent) {left : CheckLent} {number : ℕ}
       → rowsShort (vertexCount file) (edgeCount file) (length (lent .offsets)) (length (lent .targets)) (length (lent .marks)) ≡ false
-      → CheckAnswers file source after lent number left → number ≡ success
+      → CheckAnswers file source distances parents lent number left → number ≡ success
   -- with the search's own lists, which are never short; and it leaves them as the search did
-  pub own-lists : {left : Lent} {number : ℕ} → CheckAnswers file source after (rowLists after) number left → (number ≡ success) × (left ≡ rowLists after)
+  pub own-lists : {left : CheckLent} {number : ℕ} → CheckAnswers file source (after .distances) (after .parents) (rowLists after) number left
+      → (number ≡ success) × (left ≡ rowLists after)

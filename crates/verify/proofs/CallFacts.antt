@@ -19,28 +19,28 @@ use Rattle.graph.specs.declared.ReadAnswer.{ReadAnswer}
 use Rattle.graph.proofs.UnchainFacts.{marks-clear, starts-kept, ends-kept, starts-written, ends-written, rows-graph, rows-ground, starts-there, ends-there}
 use Rattle.model.specs.Words.{labelsIn}
 use Rattle.verify.specs.Certificate.{resultWrong}
-use Rattle.verify.specs.Check.{Lent, Lengths, lengthsOf, earlyRefusals, inputRefusals, checkRefusals, checkNumber, judges, lentAfter, Outcome, outcomeOfCheck}
+use Rattle.verify.specs.Check.{CheckLent, CheckLengths, lentLengths, checkEarly, checkInput, checkRefusals, checkNumber, judges, lentAfterCheck, CheckOutcome, outcomeOfCheck}
 use Rattle.verify.specs.Promise.{lentLists, checkExit, Judged}
 use Rattle.verify.specs.Steps.{earlyAnswer, CheckableIn}
-use Rattle.verify.proofs.JudgeFacts.{Passed, early-number, early-passed}
+use Rattle.verify.proofs.JudgeFacts.{EarlyPassed, early-number, early-passed}
 use Rattle.verify.proofs.Judging.{early-positive, check-judged}
 
 -- Numbers.
 
 -- with a refusal before the chains' no result is looked at, and no list is changed
-early-keeps : (file : List ℕ) (source : ℕ) (lengths : Lengths) (lent : Lent) → let k = first (earlyRefusals file source lengths) in
-    (k ≡ 0 → ⊥) → lentAfter k file lent ≡ lent
-unfolding earlyRefusals headerRefusals scanRefusals judges clearsMarks elem lentAfter
+early-keeps : (file : List ℕ) (source : ℕ) (lengths : CheckLengths) (lent : CheckLent) → let k = first (checkEarly file source lengths) in
+    (k ≡ 0 → ⊥) → lentAfterCheck k file lent ≡ lent
+unfolding checkEarly headerRefusals scanRefusals judges clearsMarks elem lentAfterCheck
 early-keeps file source lengths lent h =
-    let l = earlyRefusals file source lengths in
+    let l = checkEarly file source lengths in
     let unjudged = not-true (judges (first l)) (first-each (λ (k : ℕ). not (judges k)) l refl h) in
     let marked = not-true (clearsMarks (first l)) (first-each (λ (k : ℕ). not (clearsMarks k)) l refl h) in
     rw (unjudged, marked)
 
 -- with a refusal of the chains no result is looked at, and the marks are cleared
-chains-clear : (file : List ℕ) (lent : Lent) → let k = first (chainRefusals file) in
-    (k ≡ 0 → ⊥) → lentAfter k file lent ≡ lentLists (lent .offsets) (lent .targets) (overlay (replicate (edgeCount file) 0) (lent .marks))
-unfolding chainRefusals judges clearsMarks elem lentAfter
+chains-clear : (file : List ℕ) (lent : CheckLent) → let k = first (chainRefusals file) in
+    (k ≡ 0 → ⊥) → lentAfterCheck k file lent ≡ lentLists (lent .offsets) (lent .targets) (overlay (replicate (edgeCount file) 0) (lent .marks))
+unfolding chainRefusals judges clearsMarks elem lentAfterCheck
 chains-clear file lent h =
     let l = chainRefusals file in
     let unjudged = not-true (judges (first l)) (first-each (λ (k : ℕ). not (judges k)) l refl h) in
@@ -48,10 +48,10 @@ chains-clear file lent h =
     rw (unjudged, marked)
 
 -- The ways out.
-module _ (file : List ℕ) (source : ℕ) (distances parents : List ℕ) (lent : Lent) where
+module _ (file : List ℕ) (source : ℕ) (distances parents : List ℕ) (lent : CheckLent) where
   -- the tests before the chains are walked
   abbrev early : List Refusal
-  early = earlyRefusals file source (lengthsOf distances parents lent)
+  early = checkEarly file source (lentLengths distances parents lent)
 
   -- whether the result is wrong
   abbrev wrong : Bool
@@ -67,34 +67,34 @@ module _ (file : List ℕ) (source : ℕ) (distances parents : List ℕ) (lent :
 
   -- the tests before the chains are walked come first, then those of the chains, then that of the result
   number-parts : number ≡ first ((early ++ chainRefusals file) ++ last)
-  unfolding checkNumber checkRefusals inputRefusals
+  unfolding checkNumber checkRefusals checkInput
   number-parts = refl
 
   -- an outcome by its number and its lists
-  outcome-by : {k : ℕ} {after : Lent} → number ≡ k → lentAfter k file lent ≡ after → checkExit k after ≡ outcomeOfCheck file source distances parents lent
+  outcome-by : {k : ℕ} {after : CheckLent} → number ≡ k → lentAfterCheck k file lent ≡ after → checkExit k after ≡ outcomeOfCheck file source distances parents lent
   unfolding outcomeOfCheck
-  outcome-by {k} e l = ap (λ (x : Lent). checkExit k x) (sym l) ∙ ap (λ (x : ℕ). checkExit x (lentAfter x file lent)) (sym e)
+  outcome-by {k} e l = ap (λ (x : CheckLent). checkExit k x) (sym l) ∙ ap (λ (x : ℕ). checkExit x (lentAfterCheck x file lent)) (sym e)
 
   -- all that is promised follows from the outcome
-  pub call-judged : {r : ℕ} {after : Lent} → checkExit r after ≡ outcomeOfCheck file source distances parents lent → Judged file source distances parents lent r
+  pub call-judged : {r : ℕ} {after : CheckLent} → checkExit r after ≡ outcomeOfCheck file source distances parents lent → Judged file source distances parents lent r
   unfolding outcomeOfCheck
-  call-judged e = check-judged file source distances parents lent (ap (λ (x : Outcome). x .number) e)
+  call-judged e = check-judged file source distances parents lent (ap (λ (x : CheckOutcome). x .number) e)
 
-  module _ {head : ReadAnswer} (judged : head ≡ earlyAnswer file source (lengthsOf distances parents lent)) where
+  module _ {head : ReadAnswer} (judged : head ≡ earlyAnswer file source (lentLengths distances parents lent)) where
     -- a refusal before the chains are walked
     pub check-early : (head .number ≡ 0 → ⊥) → checkExit (head .number) lent ≡ outcomeOfCheck file source distances parents lent
     check-early h =
         let k = first early in
-        let same : head .number ≡ k = early-number file source (lengthsOf distances parents lent) judged in
+        let same : head .number ≡ k = early-number file source (lentLengths distances parents lent) judged in
         let found : k ≡ 0 → ⊥ = λ z. h (same ∙ z) in
         let stopped : first (early ++ chainRefusals file) ≡ k = first-append-stop early (chainRefusals file) (omega arith) in
         let all : number ≡ k = number-parts ∙ first-append-stop (early ++ chainRefusals file) last (omega arith) ∙ stopped in
-        ap (λ (x : ℕ). checkExit x lent) same ∙ outcome-by all (early-keeps file source (lengthsOf distances parents lent) lent found)
+        ap (λ (x : ℕ). checkExit x lent) same ∙ outcome-by all (early-keeps file source (lentLengths distances parents lent) lent found)
 
     module _ (passed : head .number ≡ 0) where
       -- what the judgement tells
-      abbrev told : Passed file source (lengthsOf distances parents lent) head
-      told = early-passed file source (lengthsOf distances parents lent) judged passed
+      abbrev told : EarlyPassed file source (lentLengths distances parents lent) head
+      told = early-passed file source (lentLengths distances parents lent) judged passed
 
       -- the number is that of the chains, or of the result
       number-later : number ≡ first (chainRefusals file ++ last)
@@ -122,12 +122,12 @@ module _ (file : List ℕ) (source : ℕ) (distances parents : List ℕ) (lent :
           number-last = number-later ∙ first-append (chainRefusals file) last (omega arith) (sym (walked .judged) ∙ whole)
 
           -- rows are written
-          abbrev written : Lent
-          written = lentLists (overlay (offsetsOf (graphOf file)) (lent .offsets)) (overlay (targetsOf (graphOf file)) (lent .targets))
+          abbrev after-rows : CheckLent
+          after-rows = lentLists (overlay (offsetsOf (graphOf file)) (lent .offsets)) (overlay (targetsOf (graphOf file)) (lent .targets))
               (overlay (replicate (edgeCount file) 0) (lent .marks))
 
           -- these are the lists at exit
-          lists-written : lentLists offsets′ targets′ marks′ ≡ written
+          lists-written : lentLists offsets′ targets′ marks′ ≡ after-rows
           lists-written =
               λ i. lentLists (starts-written (told .scanned) walked whole i) (ends-written (told .scanned) walked whole i) (marks-clear (told .scanned) walked i)
 
@@ -157,14 +157,14 @@ module _ (file : List ℕ) (source : ℕ) (distances parents : List ℕ) (lent :
 
             -- the result is wrong
             pub check-wrong : found ≡ true → checkExit badResult (lentLists offsets′ targets′ marks′) ≡ outcomeOfCheck file source distances parents lent
-            unfolding lentAfter judges elem
+            unfolding lentAfterCheck judges elem
             check-wrong e =
-                ap (λ (x : Lent). checkExit badResult x) lists-written
+                ap (λ (x : CheckLent). checkExit badResult x) lists-written
                 ∙ outcome-by (number-last ∙ first-stop wrong badResult [] (sym seen-wrong ∙ e)) refl
 
             -- or it isn't
             pub check-right : found ≡ false → checkExit success (lentLists offsets′ targets′ marks′) ≡ outcomeOfCheck file source distances parents lent
-            unfolding lentAfter judges elem first
+            unfolding lentAfterCheck judges elem first
             check-right e =
-                ap (λ (x : Lent). checkExit success x) lists-written
+                ap (λ (x : CheckLent). checkExit success x) lists-written
                 ∙ outcome-by (number-last ∙ first-skip wrong badResult [] (sym seen-wrong ∙ e)) refl

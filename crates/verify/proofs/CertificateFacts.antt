@@ -18,7 +18,7 @@ use Rattle.lists.proofs.Replaced.{map-at}
 use Rattle.lists.proofs.Tests.{reaches-at, reaches-row}
 use Rattle.graph.specs.Graph.{edges, targetsOf, rowsOf}
 use Rattle.graph.specs.Links.{linksOf}
-use Rattle.graph.specs.Steps.{Ground}
+use Rattle.graph.specs.Steps.{GraphRows}
 use Rattle.graph.proofs.Bridge.{graph-links}
 use Rattle.model.specs.Paths.{isSet}
 use Rattle.model.specs.Words.{optionOf, labelsOf}
@@ -122,7 +122,7 @@ module _ (distances : List ℕ) (most : ℕ) where
 
 -- The view of a vertex.
 
-module _ {offsets targets : List ℕ} {n : ℕ} (ground : Ground offsets targets n) (u : ℕ) (h : u < n) {row : List ℕ}
+module _ {offsets targets : List ℕ} {n : ℕ} (ground : GraphRows offsets targets n) (u : ℕ) (h : u < n) {row : List ℕ}
     (view : row ≡ linksOf offsets targets u) where
   -- it is the row of the vertex
   view-row : row ≡ edges (rowsOf offsets targets) u
@@ -159,7 +159,7 @@ module _ (offsets targets distances : List ℕ) (v distance parent : ℕ) where
       go true = refl
       go false = sym (ap (λ (o : Option ℕ). notBefore distance o || noEdge) past)
 
-  module _ (ground : Ground offsets targets (length distances)) (inside : parent < length distances) {before : ℕ}
+  module _ (ground : GraphRows offsets targets (length distances)) (inside : parent < length distances) {before : ℕ}
       (label : before ≡ getD distances parent 0) where
     -- a vertex: by its distance, or by its edges
     parent-by : noParent ≡ notBefore distance (optionOf before) || noEdge

@@ -1,5 +1,5 @@
 -- The test that computes is the checker's condition: a result that no vertex finds wrong is certified, and a certified one passes; so the test
--- fails exactly where the result is right, in terms of paths.
+-- answers false exactly where the result is right, in terms of paths.
 use mathlib.Core.Path.{_≡_, refl, sym, ap, _∙_}
 use mathlib.Core.Bool.{Bool, true, false, cond, not, _||_, true≢false}
 use mathlib.Core.Option.{Option, none, some, Option·none-ne-some, mem-unique}

@@ -16,19 +16,19 @@ use Rattle.graph.specs.Steps.{headerAnswer, Scanned}
 use Rattle.graph.specs.declared.ReadAnswer.{ReadAnswer}
 use Rattle.graph.proofs.ReadFacts.{header-fits, long-enough}
 use Rattle.graph.proofs.EarlyFacts as early
-use Rattle.verify.specs.Check.{Lengths, lengthsShort, earlyRefusals}
+use Rattle.verify.specs.Check.{CheckLengths, checkShort, checkEarly}
 use Rattle.verify.specs.Steps.{earlyAnswer}
 
 -- Whether a list is short.
 
 -- the first of the three tests that holds decides
-pub short-by : (n m : ℕ) (lengths : Lengths) {a b c : Bool} → rowsShort n m (lengths .offsets) (lengths .targets) (lengths .marks) ≡ a
-    → ltb (lengths .distances) n ≡ b → ltb (lengths .parents) n ≡ c → (a || b || c) ≡ lengthsShort n m lengths
-unfolding lengthsShort
+pub short-by : (n m : ℕ) (lengths : CheckLengths) {a b c : Bool} → rowsShort n m (lengths .offsets) (lengths .targets) (lengths .marks) ≡ a
+    → ltb (lengths .distances) n ≡ b → ltb (lengths .parents) n ≡ c → (a || b || c) ≡ checkShort n m lengths
+unfolding checkShort
 short-by n m lengths rows far near = rw (rows, far, near)
 
 -- a list for each need
-pub record Long (n m : ℕ) (lengths : Lengths) : Type 0 where
+pub record Long (n m : ℕ) (lengths : CheckLengths) : Type 0 where
   pub offsets-there : n + 1 ≤ lengths .offsets
   pub targets-there : m ≤ lengths .targets
   pub marks-there : m ≤ lengths .marks
@@ -36,8 +36,8 @@ pub record Long (n m : ℕ) (lengths : Lengths) : Type 0 where
   pub parents-there : n ≤ lengths .parents
 
 -- no list is short
-long-lists : (n m : ℕ) (lengths : Lengths) → lengthsShort n m lengths ≡ false → Long n m lengths
-unfolding lengthsShort
+long-lists : (n m : ℕ) (lengths : CheckLengths) → checkShort n m lengths ≡ false → Long n m lengths
+unfolding checkShort
 long-lists n m lengths h =
     let rows = rowsShort n m (lengths .offsets) (lengths .targets) (lengths .marks) in
     let far = ltb (lengths .distances) n in
@@ -53,46 +53,46 @@ long-lists n m lengths h =
     }
 
 -- The answer of these tests.
-module _ (file : List ℕ) (source : ℕ) (lengths : Lengths) where
+module _ (file : List ℕ) (source : ℕ) (lengths : CheckLengths) where
   -- 20
   abbrev last : List Refusal
-  last = lengthsShort (vertexCount file) (edgeCount file) lengths gives shortList ∷ []
+  last = checkShort (vertexCount file) (edgeCount file) lengths gives shortList ∷ []
 
   -- 7, then 20: the tests that are not the reader's
   abbrev others : List Refusal
   others = leb (vertexCount file) source gives badSource ∷ last
 
   -- they come after the header's and the scan's
-  parts : earlyRefusals file source lengths ≡ early.refusals file others
-  unfolding earlyRefusals headerRefusals scanRefusals
-  parts = refl
+  early-split : checkEarly file source lengths ≡ early.refusals file others
+  unfolding checkEarly headerRefusals scanRefusals
+  early-split = refl
 
   -- and the answer is that of all these tests
   answers : early.answer file others ≡ earlyAnswer file source lengths
-  unfolding earlyAnswer earlyRefusals headerRefusals scanRefusals
+  unfolding earlyAnswer checkEarly headerRefusals scanRefusals
   answers = refl
 
   -- what an answer with 0 tells
-  pub record Passed (head : ReadAnswer) : Type 0 where
-    pub none : first (earlyRefusals file source lengths) ≡ 0
+  pub record EarlyPassed (head : ReadAnswer) : Type 0 where
+    pub none : first (checkEarly file source lengths) ≡ 0
     pub scanned : Scanned file (head .vertices) (head .edges)
     pub near : source < head .vertices
     pub long : Long (head .vertices) (head .edges) lengths
 
   module _ {head : ReadAnswer} (judged : head ≡ earlyAnswer file source lengths) where
     -- the answer's number
-    pub early-number : head .number ≡ first (earlyRefusals file source lengths)
-    early-number = rw parts (early.early-number file others (judged ∙ sym answers))
+    pub early-number : head .number ≡ first (checkEarly file source lengths)
+    early-number = rw early-split (early.early-number file others (judged ∙ sym answers))
 
     -- with 0 each test is passed
-    pub early-passed : head .number ≡ 0 → Passed head
+    pub early-passed : head .number ≡ 0 → EarlyPassed head
     early-passed e =
         let told = early.early-passed file others (judged ∙ sym answers) e in
         let s = told .scanned .sized in
         let p = first-passed (leb (vertexCount file) source) badSource last (omega arith) (told .others-none) in
-        let q = first-passed (lengthsShort (vertexCount file) (edgeCount file) lengths) shortList [] (omega arith) (p .1) in
+        let q = first-passed (checkShort (vertexCount file) (edgeCount file) lengths) shortList [] (omega arith) (p .1) in
         record {
-          none = rw parts (told .none);
+          none = rw early-split (told .none);
           scanned = told .scanned;
           near = rw (s .vertices) (leb-false (vertexCount file) source (p .0));
           long = rw (s .vertices, s .edges) (long-lists (vertexCount file) (edgeCount file) lengths (q .0));
@@ -116,7 +116,7 @@ module _ (file : List ℕ) (source : ℕ) (lengths : Lengths) where
             let stopped = first-stop (leb (vertexCount file) source) badSource last far in
             early.by-others file others answered whole looked clean stopped (λ z. absurd (omega arith)) e ∙ answers
 
-        module _ (near : source < head .vertices) {short : Bool} (seen : short ≡ lengthsShort (head .vertices) (head .edges) lengths) where
+        module _ (near : source < head .vertices) {short : Bool} (seen : short ≡ checkShort (head .vertices) (head .edges) lengths) where
           -- past 7
           number-short : first others ≡ first last
           number-short =
@@ -124,7 +124,7 @@ module _ (file : List ℕ) (source : ℕ) (lengths : Lengths) where
               (lt-leb (vertexCount file) source (omega (arith, header-fits file answered whole .vertices)))
 
           -- whether a list is short, with the file's n and m
-          file-short : {x : Bool} → short ≡ x → lengthsShort (vertexCount file) (edgeCount file) lengths ≡ x
+          file-short : {x : Bool} → short ≡ x → checkShort (vertexCount file) (edgeCount file) lengths ≡ x
           file-short e = rw (← (header-fits file answered whole .vertices), ← (header-fits file answered whole .edges)) (sym seen ∙ e)
 
           -- 20

@@ -21,11 +21,11 @@ use Rattle.model.specs.Paths.{Labels}
 use Rattle.model.specs.Words.{optionOf, labelsOf, labelsIn}
 use Rattle.model.proofs.Sound.{Ground}
 use Rattle.verify.specs.Certificate.{resultWrong}
-use Rattle.verify.specs.Check.{Lent, lengthsOf, lengthsShort, earlyRefusals, inputRefusals, checkRefusals, checkNumber}
+use Rattle.verify.specs.Check.{CheckLent, lentLengths, checkShort, checkEarly, checkInput, checkRefusals, checkNumber}
 use Rattle.verify.specs.Promise.{Passed, RightLists, Judged}
 use Rattle.verify.proofs.Exact.{passes-right, right-passes}
 
-module _ (file : List ℕ) (source : ℕ) (distances parents : List ℕ) (lent : Lent) where
+module _ (file : List ℕ) (source : ℕ) (distances parents : List ℕ) (lent : CheckLent) where
   -- the file's graph
   abbrev g : Graph
   g = graphOf file
@@ -36,25 +36,25 @@ module _ (file : List ℕ) (source : ℕ) (distances parents : List ℕ) (lent :
 
   -- the tests on the input
   abbrev input : List Refusal
-  input = inputRefusals file source distances parents lent
+  input = checkInput file source distances parents lent
 
   -- the test of the result
   abbrev last : List Refusal
   last = resultWrong g source labels gives badResult ∷ []
 
   -- the tests before the chains are walked have positive numbers
-  pub early-positive : Positive (earlyRefusals file source (lengthsOf distances parents lent))
-  unfolding earlyRefusals headerRefusals scanRefusals
+  pub early-positive : Positive (checkEarly file source (lentLengths distances parents lent))
+  unfolding checkEarly headerRefusals scanRefusals
   early-positive = omega arith
 
   -- and so have all tests on the input
   pub input-positive : Positive input
-  unfolding inputRefusals earlyRefusals headerRefusals scanRefusals chainRefusals
+  unfolding checkInput checkEarly headerRefusals scanRefusals chainRefusals
   input-positive = omega arith
 
   -- none of them gives 10
   input-other : first input ≡ badResult → ⊥
-  unfolding inputRefusals earlyRefusals headerRefusals scanRefusals chainRefusals
+  unfolding checkInput checkEarly headerRefusals scanRefusals chainRefusals
   input-other e =
       let other : not (eqb (first input) badResult) ≡ true = first-each (λ (k : ℕ). not (eqb k badResult)) input refl (λ z. omega arith) in
       eqb-false (first input) badResult (not-true (eqb (first input) badResult) other) e
@@ -76,10 +76,10 @@ module _ (file : List ℕ) (source : ℕ) (distances parents : List ℕ) (lent :
 
   -- then the input is
   pub parts-passed : Parts → Passed file source distances parents lent
-  unfolding inputRefusals earlyRefusals headerRefusals scanRefusals lengthsShort first
+  unfolding checkInput checkEarly headerRefusals scanRefusals checkShort first
   parts-passed x =
       let n = vertexCount file in
-      let needed = lengthsShort n (edgeCount file) (lengthsOf distances parents lent) in
+      let needed = checkShort n (edgeCount file) (lentLengths distances parents lent) in
       let rest = needed gives shortList ∷ [] in
       let past = leb n source in
       let far = le-ltb (length distances) n (x .distances-there) in
@@ -88,7 +88,7 @@ module _ (file : List ℕ) (source : ℕ) (distances parents : List ℕ) (lent :
       let below = lt-leb n source (x .source-below) in
       let q : first (past gives badSource ∷ rest) ≡ 0 = first-skip past badSource rest below ∙ first-skip needed shortList [] long in
       let p = first-join (scanRefusals file) (past gives badSource ∷ rest) (positive-scan file) (x .scan) q in
-      first-join (earlyRefusals file source (lengthsOf distances parents lent)) (chainRefusals file) early-positive
+      first-join (checkEarly file source (lentLengths distances parents lent)) (chainRefusals file) early-positive
       (first-join (headerRefusals file) (scanRefusals file ++ past gives badSource ∷ rest) (positive-header file) (x .header) p)
       (x .whole)
 
@@ -96,16 +96,16 @@ module _ (file : List ℕ) (source : ℕ) (distances parents : List ℕ) (lent :
   module _ (e : Passed file source distances parents lent) where
     -- each part of the tests is passed
     pub input-parts : Parts
-    unfolding inputRefusals earlyRefusals headerRefusals scanRefusals lengthsShort
+    unfolding checkInput checkEarly headerRefusals scanRefusals checkShort
     input-parts =
         let n = vertexCount file in
-        let needed = lengthsShort n (edgeCount file) (lengthsOf distances parents lent) in
+        let needed = checkShort n (edgeCount file) (lentLengths distances parents lent) in
         let rows = rowsShort n (edgeCount file) (length (lent .offsets)) (length (lent .targets)) (length (lent .marks)) in
         let far = ltb (length distances) n in
         let near = ltb (length parents) n in
         let rest = needed gives shortList ∷ [] in
         let past = leb n source in
-        let both = first-split (earlyRefusals file source (lengthsOf distances parents lent)) (chainRefusals file) early-positive e in
+        let both = first-split (checkEarly file source (lentLengths distances parents lent)) (chainRefusals file) early-positive e in
         let p = first-split (headerRefusals file) (scanRefusals file ++ past gives badSource ∷ rest) (positive-header file) (both .0) in
         let q = first-split (scanRefusals file) (past gives badSource ∷ rest) (positive-scan file) (p .1) in
         let r = first-passed past badSource rest (omega arith) (q .1) in
@@ -123,8 +123,8 @@ module _ (file : List ℕ) (source : ℕ) (distances parents : List ℕ) (lent :
         }
 
     -- the graph's targets and the source are vertices
-    ground : Ground g source
-    ground = record {
+    source-ground : Ground g source
+    source-ground = record {
       below = rw (length-graph file) (graph-below file (scan-bounded file (input-parts .scan)));
       starts = rw (length-graph file) (input-parts .source-below);
     }
@@ -136,7 +136,7 @@ module _ (file : List ℕ) (source : ℕ) (distances parents : List ℕ) (lent :
     -- a result that isn't found wrong is right
     found-right : resultWrong g source labels ≡ false → RightLists file source distances parents
     unfolding labelsIn labelsOf
-    found-right = passes-right ground labels (all-labels distances (input-parts .distances-there)) (all-labels parents (input-parts .parents-there))
+    found-right = passes-right source-ground labels (all-labels distances (input-parts .distances-there)) (all-labels parents (input-parts .parents-there))
 
     -- one that isn't right is found wrong
     found-wrong : (RightLists file source distances parents → ⊥) → resultWrong g source labels ≡ true
@@ -153,7 +153,7 @@ module _ (file : List ℕ) (source : ℕ) (distances parents : List ℕ) (lent :
     -- 0 where it is right
     pub number-right : RightLists file source distances parents → checkNumber file source distances parents lent ≡ success
     unfolding first
-    number-right r = number-last ∙ first-skip (resultWrong g source labels) badResult [] (right-passes ground labels r)
+    number-right r = number-last ∙ first-skip (resultWrong g source labels) badResult [] (right-passes source-ground labels r)
 
     -- 10 where it isn't
     number-wrong : (RightLists file source distances parents → ⊥) → checkNumber file source distances parents lent ≡ badResult

@@ -15,22 +15,22 @@ use Rattle.model.specs.Words.{labelsIn}
 use Rattle.verify.specs.Certificate.{resultWrong}
 
 -- the lists that the caller lends for writing
-pub record Lent : Type 0 where
+pub record CheckLent : Type 0 where
   pub offsets : List ℕ
   pub targets : List ℕ
   pub marks : List ℕ
 
 -- the lengths of all lists that the caller lends
-pub record Lengths : Type 0 where
+pub record CheckLengths : Type 0 where
   pub distances : ℕ
   pub parents : ℕ
   pub offsets : ℕ
   pub targets : ℕ
   pub marks : ℕ
 
--- of these lists
-abbrev pub lengthsOf : List ℕ → List ℕ → Lent → Lengths
-lengthsOf distances parents lent = record {
+-- the lengths of these lists
+abbrev pub lentLengths : List ℕ → List ℕ → CheckLent → CheckLengths
+lentLengths distances parents lent = record {
   distances = length distances;
   parents = length parents;
   offsets = length (lent .offsets);
@@ -39,30 +39,30 @@ lengthsOf distances parents lent = record {
 }
 
 -- "20: a lent list is shorter than its need": "offsets n + 1, targets and marks m, distances and parents n"
-unfoldable pub lengthsShort : ℕ → ℕ → Lengths → Bool
-lengthsShort n m lengths =
+unfoldable pub checkShort : ℕ → ℕ → CheckLengths → Bool
+checkShort n m lengths =
     rowsShort n m (lengths .offsets) (lengths .targets) (lengths .marks) || ltb (lengths .distances) n || ltb (lengths .parents) n
 
 -- "Order: 1 (under 4), 2, 1 (length), 4, 3, 7, .., 20": what is judged before a list is written
-unfoldable pub earlyRefusals : List ℕ → ℕ → Lengths → List Refusal
-earlyRefusals file source lengths =
+unfoldable pub checkEarly : List ℕ → ℕ → CheckLengths → List Refusal
+checkEarly file source lengths =
     headerRefusals file
     ++ scanRefusals file
     ++ (leb (vertexCount file) source gives badSource ∷ [])
-    ++ (lengthsShort (vertexCount file) (edgeCount file) lengths gives shortList ∷ [])
+    ++ (checkShort (vertexCount file) (edgeCount file) lengths gives shortList ∷ [])
 
 -- ".. 5, 6", all of it before the result is looked at
-unfoldable pub inputRefusals : List ℕ → ℕ → List ℕ → List ℕ → Lent → List Refusal
-inputRefusals file source distances parents lent = earlyRefusals file source (lengthsOf distances parents lent) ++ chainRefusals file
+unfoldable pub checkInput : List ℕ → ℕ → List ℕ → List ℕ → CheckLent → List Refusal
+checkInput file source distances parents lent = checkEarly file source (lentLengths distances parents lent) ++ chainRefusals file
 
 -- "then 10": longer lists count by their first n places
-unfoldable pub checkRefusals : List ℕ → ℕ → List ℕ → List ℕ → Lent → List Refusal
+unfoldable pub checkRefusals : List ℕ → ℕ → List ℕ → List ℕ → CheckLent → List Refusal
 checkRefusals file source distances parents lent =
-    inputRefusals file source distances parents lent
+    checkInput file source distances parents lent
     ++ (resultWrong (graphOf file) source (labelsIn (vertexCount file) distances parents) gives badResult ∷ [])
 
 -- the checker's number
-unfoldable pub checkNumber : List ℕ → ℕ → List ℕ → List ℕ → Lent → ℕ
+unfoldable pub checkNumber : List ℕ → ℕ → List ℕ → List ℕ → CheckLent → ℕ
 checkNumber file source distances parents lent = first (checkRefusals file source distances parents lent)
 
 -- whether the result was looked at: "Every call that gets past 6 .. writes rows"
@@ -71,20 +71,20 @@ judges number = elem number (success ∷ badResult ∷ [])
 
 -- the lists at exit: "A refusal .. other than 10 and 21 changes nothing, but with 5 and 6 the first m marks become 0. Every call that gets past 6
 -- leaves the first m marks 0 and writes rows. .. Places past the need keep their contents."
-unfoldable pub lentAfter : ℕ → List ℕ → Lent → Lent
-lentAfter number file lent = record {
+unfoldable pub lentAfterCheck : ℕ → List ℕ → CheckLent → CheckLent
+lentAfterCheck number file lent = record {
   offsets = cond (judges number) (overlay (offsetsOf (graphOf file)) (lent .offsets)) (lent .offsets);
   targets = cond (judges number) (overlay (targetsOf (graphOf file)) (lent .targets)) (lent .targets);
   marks = cond (judges number || clearsMarks number) (overlay (replicate (edgeCount file) 0) (lent .marks)) (lent .marks);
 }
 
 -- what a call answers, and the lists at exit
-pub record Outcome : Type 0 where
+pub record CheckOutcome : Type 0 where
   pub number : ℕ
-  pub lent : Lent
+  pub lent : CheckLent
 
 -- the outcome of a check
-unfoldable pub outcomeOfCheck : List ℕ → ℕ → List ℕ → List ℕ → Lent → Outcome
+unfoldable pub outcomeOfCheck : List ℕ → ℕ → List ℕ → List ℕ → CheckLent → CheckOutcome
 outcomeOfCheck file source distances parents lent =
     let number = checkNumber file source distances parents lent in
-    record { number = number; lent = lentAfter number file lent }
+    record { number = number; lent = lentAfterCheck number file lent }

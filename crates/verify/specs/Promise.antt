@@ -7,14 +7,14 @@ use Rattle.numbers.specs.Refusals.{first}
 use Rattle.graph.specs.File.{vertexCount, graphOf}
 use Rattle.model.specs.Paths.{RightResult}
 use Rattle.model.specs.Words.{labelsIn}
-use Rattle.verify.specs.Check.{Lent, Outcome, inputRefusals}
+use Rattle.verify.specs.Check.{CheckLent, CheckOutcome, checkInput}
 
 -- the lists that the caller lends for writing
-abbrev pub lentLists : List ℕ → List ℕ → List ℕ → Lent
+abbrev pub lentLists : List ℕ → List ℕ → List ℕ → CheckLent
 lentLists offsets targets marks = record { offsets = offsets; targets = targets; marks = marks }
 
 -- what the call answered, and the lists at exit
-abbrev pub checkExit : ℕ → Lent → Outcome
+abbrev pub checkExit : ℕ → CheckLent → CheckOutcome
 checkExit number after = record { number = number; lent = after }
 
 -- "The checker gives 0 exactly when distances are right for every device, the source is its own parent, unreached devices have an unset parent,
@@ -22,10 +22,10 @@ checkExit number after = record { number = number; lent = after }
 abbrev pub RightLists : List ℕ → ℕ → List ℕ → List ℕ → Type 0
 RightLists file source distances parents = RightResult (graphOf file) source (labelsIn (vertexCount file) distances parents)
 
-module _ (file : List ℕ) (source : ℕ) (distances parents : List ℕ) (lent : Lent) where
+module _ (file : List ℕ) (source : ℕ) (distances parents : List ℕ) (lent : CheckLent) where
   -- nothing is refused before the result is looked at
   abbrev pub Passed : Type 0
-  Passed = first (inputRefusals file source distances parents lent) ≡ success
+  Passed = first (checkInput file source distances parents lent) ≡ success
 
   -- a call that answered this number
   pub record Judged (number : ℕ) : Type 0 where

@@ -1,4 +1,4 @@
--- What the steps of the checker take for granted. No outside contract cites these.
+-- What the steps of the checker take for granted, and what the first of them answers. No outside contract cites these.
 use mathlib.Core.Path.{_≡_}
 use mathlib.Core.List.{List}
 use Prim.Native.Nat.{ℕ, _+_, _≤_, _<_}
@@ -6,22 +6,22 @@ use lib.ListN.{length, take}
 use Rattle.numbers.specs.Refusals.{first}
 use Rattle.graph.specs.File.{vertexCount, edgeCount}
 use Rattle.graph.specs.Read.{answerWith}
-use Rattle.graph.specs.Steps.{Ground}
+use Rattle.graph.specs.Steps.{GraphRows}
 use Rattle.graph.specs.declared.ReadAnswer.{ReadAnswer}
 use Rattle.verify.specs.declared.Lengths.{Lengths}
 use Rattle.verify.specs.Check as check
 
 -- the code's lengths as the definitions'
-abbrev pub lengthsIn : Lengths → check.Lengths
+abbrev pub lengthsIn : Lengths → check.CheckLengths
 lengthsIn x = record { distances = x .distances; parents = x .parents; offsets = x .offsets; targets = x .targets; marks = x .marks }
 
 -- the number of the tests before the chains, with n and m beside 0
-unfoldable pub earlyAnswer : List ℕ → ℕ → check.Lengths → ReadAnswer
-earlyAnswer file source lengths = answerWith (first (check.earlyRefusals file source lengths)) (vertexCount file) (edgeCount file)
+unfoldable pub earlyAnswer : List ℕ → ℕ → check.CheckLengths → ReadAnswer
+earlyAnswer file source lengths = answerWith (first (check.checkEarly file source lengths)) (vertexCount file) (edgeCount file)
 
 -- rows of a graph of n vertices, and a distance and a parent for each
 pub record Checkable (source : ℕ) (offsets targets distances parents : List ℕ) : Type 0 where
-  pub rows : Ground offsets targets (length distances)
+  pub rows : GraphRows offsets targets (length distances)
   pub source-below : source < length distances
   pub parents-all : length parents ≡ length distances
 

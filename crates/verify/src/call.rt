@@ -5,7 +5,7 @@ ghost use lib.ListN.{take};
 ghost use Rattle.graph.specs.Graph.{rowsOf};
 ghost use Rattle.model.specs.Words.{labelsIn};
 ghost use Rattle.verify.specs.Certificate.{resultWrong};
-ghost use Rattle.verify.specs.Check.{lengthsShort, outcomeOfCheck};
+ghost use Rattle.verify.specs.Check.{checkShort, outcomeOfCheck};
 ghost use Rattle.verify.specs.Promise.{lentLists, checkExit, Judged};
 ghost use Rattle.verify.specs.Steps.{lengthsIn, earlyAnswer, CheckableIn};
 use crate::Lengths;
@@ -15,7 +15,7 @@ use graph::steps;
 
 // 20: whether a lent list is shorter than its need.
 fn lengths_short(n: usize, m: usize, lengths: Lengths) -> bool
-    ensures { λ r. ⌜ r ≡ lengthsShort n m (lengthsIn lengths) ⌝ }
+    ensures { λ r. ⌜ r ≡ checkShort n m (lengthsIn lengths) ⌝ }
 {
     if steps::rows_short(n, m, lengths.offsets, lengths.targets, lengths.marks) {
         return true;
@@ -27,21 +27,21 @@ fn lengths_short(n: usize, m: usize, lengths: Lengths) -> bool
 fn judge(file: &[u8], source: usize, lengths: Lengths) -> ReadAnswer
     ensures { λ r. ⌜ r ≡ earlyAnswer (now (file .entry)) source (lengthsIn lengths) ⌝ }
 {
-    let head = steps::header(file);
-    if head.number != numbers::SUCCESS {
-        return head;
+    let header = steps::header(file);
+    if header.number != numbers::SUCCESS {
+        return header;
     }
-    let scanned = steps::scan(file, head.vertices, head.edges);
+    let scanned = steps::scan(file, header.vertices, header.edges);
     if scanned != numbers::SUCCESS {
         return steps::refused(scanned);
     }
-    if head.vertices <= source {
+    if header.vertices <= source {
         return steps::refused(numbers::BAD_SOURCE);
     }
-    if lengths_short(head.vertices, head.edges, lengths) {
+    if lengths_short(header.vertices, header.edges, lengths) {
         return steps::refused(numbers::SHORT_LIST);
     }
-    head
+    header
 }
 
 // Whether the result in the first places of these lists is wrong.
@@ -60,10 +60,10 @@ fn result_wrong_in(
         (labelsIn n (now (distances .entry)) (now (parents .entry)))
         ⌝ }
 {
-    let starts = n + 1;
+    let offset_count = n + 1;
     result_wrong(
         source,
-        &offsets[..starts],
+        &offsets[..offset_count],
         &targets[..m],
         &distances[..n],
         &parents[..n],
@@ -99,12 +99,12 @@ pub fn check(
         targets: targets.len(),
         marks: marks.len(),
     };
-    let head = judge(file, source, lengths);
-    if head.number != numbers::SUCCESS {
-        return head.number;
+    let judged = judge(file, source, lengths);
+    if judged.number != numbers::SUCCESS {
+        return judged.number;
     }
-    let n = head.vertices;
-    let m = head.edges;
+    let n = judged.vertices;
+    let m = judged.edges;
     let chained = steps::unchain(file, n, m, offsets, targets, marks);
     if chained != numbers::SUCCESS {
         return chained;

@@ -1,6 +1,5 @@
 // The local certificate: each vertex is judged by its own label, its parent's and its targets'. No
-// list is written, and no label is used as an index or added to before it is known to be a number
-// of the graph.
+// list is written; a parent is an index only below n, and nothing is added to an unset distance.
 ghost use mathlib.Core.Path.{_≡_};
 ghost use mathlib.Core.Bool.{false};
 ghost use mathlib.Core.List.{map};
@@ -8,12 +7,13 @@ ghost use Prim.Native.Nat.{_<_};
 ghost use lib.ListN.{length};
 ghost use Rattle.lists.specs.Lists.{elem, reaches};
 ghost use Rattle.graph.specs.Graph.{rowsOf};
-ghost use Rattle.graph.specs.Steps.{Ground};
+ghost use Rattle.graph.specs.Steps.{GraphRows};
 ghost use Rattle.model.specs.Words.{optionOf, labelsOf};
 ghost use Rattle.verify.specs.Certificate.{anyBeyond, parentWrong, vertexWrong, resultWrong};
 ghost use Rattle.verify.specs.Steps.{Checkable};
 use graph::words::element;
 
+// An unset distance or parent, among words made wide.
 const UNSET: usize = numbers::UNSET as usize;
 
 // Whether some target of the row is unset or farther than `most`.
@@ -23,11 +23,11 @@ fn any_beyond(row: &[u16], distances: &[u16], most: usize) -> bool
 {
     let mut i = 0;
     while i < row.len() {
-        let distance = element(distances, element(row, i));
-        if distance == UNSET {
+        let reached = element(distances, element(row, i));
+        if reached == UNSET {
             return true;
         }
-        if most < distance {
+        if most < reached {
             return true;
         }
         i += 1;
@@ -58,7 +58,7 @@ fn parent_wrong(
     targets: &[u16],
     distances: &[u16],
 ) -> bool
-    requires { ⌜ Ground (now offsets) (now targets) (length (now distances)) ⌝ }
+    requires { ⌜ GraphRows (now offsets) (now targets) (length (now distances)) ⌝ }
     ensures { λ r. ⌜
         r ≡ parentWrong (rowsOf (now (offsets .entry)) (now (targets .entry))) (map optionOf (now (distances .entry))) vertex distance (optionOf parent)
         ⌝ }
@@ -66,11 +66,11 @@ fn parent_wrong(
     if distances.len() <= parent {
         return true;
     }
-    let before = element(distances, parent);
-    if before == UNSET {
+    let parent_distance = element(distances, parent);
+    if parent_distance == UNSET {
         return true;
     }
-    if before + 1 != distance {
+    if parent_distance + 1 != distance {
         return true;
     }
     if has_edge(graph::links(offsets, targets, parent), vertex) {
@@ -112,7 +112,7 @@ fn vertex_wrong(
     parent_wrong(vertex, distance, parent, offsets, targets, distances)
 }
 
-// Whether some vertex's is.
+// Whether some vertex's distance or parent is wrong.
 pub fn result_wrong(
     source: usize,
     offsets: &[u16],

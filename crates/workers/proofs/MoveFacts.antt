@@ -25,8 +25,8 @@ use Rattle.workers.specs.declared.Phase.the-variants.{Free, Holding, InH
 use Rattle.workers.specs.declared.Worker.{Worker}
 use Rattle.model.specs.Words.{labelsOf}
 use Rattle.workers.specs.Shown.{phaseOf, workerOf, bagsOf}
-use Rattle.graph.specs.Steps.{Ground}
-use Rattle.graph.proofs.GroundFacts.{offsets-long}
+use Rattle.graph.specs.Steps.{GraphRows}
+use Rattle.graph.proofs.GraphRowsFacts.{offsets-long}
 use Rattle.workers.specs.Steps.{EdgeOf, Fits, holdFrom, Between, Advanced, Apart, Stocked, Begun, Stowed, Workable, Worked}
 use Rattle.workers.proofs.TriedFacts.{tried-met}
 use Rattle.workers.proofs.RowFacts.{hold-shown, hold-fits, pass-shown, pass-fits}
@@ -164,14 +164,14 @@ begin-taken worker offsets left right number left′ rest value free stocked fil
     output-same = first-held pool (taken .moved) number number (λ x h c. refl)
 
     -- the phase is the model's at the first edge of the number taken
-    phase-same : (targets : List ℕ) (n : ℕ) → Ground offsets targets n
+    phase-same : (targets : List ℕ) (n : ℕ) → GraphRows offsets targets n
         → phaseOf offsets (holdFrom offsets value (getD offsets value 0)) ≡ holdAt (rowsOf offsets targets) (takenNumber input) 0
     phase-same targets n ground =
         let first : getD offsets value 0 - getD offsets value 0 ≡ 0 = omega arith in
         hold-shown ground value (getD offsets value 0) (omega (arith, below, offsets-long ground)) (omega arith)
         ∙ ap₂ (λ (v i : ℕ). holdAt (rowsOf offsets targets) v i) (taken .taken) first
 
-    happens : (targets : List ℕ) (n : ℕ) → Ground offsets targets n → (layer : ℕ) (x : Labels)
+    happens : (targets : List ℕ) (n : ℕ) → GraphRows offsets targets n → (layer : ℕ) (x : Labels)
         → moveOf (rowsOf offsets targets) layer x (workerOf offsets left right number worker)
         ≡ some (
           model.workerWith (heldBy left′ right number (rest .slots)) (heldBy left′ right number (worker .output .slots))

@@ -13,8 +13,8 @@ use borrow.Author.Tests.{ltb-true, ltb-false, lt-ltb, le-ltb, ne-eqb}
 use Rattle.numbers.specs.Numbers.{unset}
 use Rattle.lists.proofs.Tests.{reaches-at}
 use Rattle.graph.specs.Graph.{edges, offsetsOf, rowsOf}
-use Rattle.graph.specs.Steps.{Ground}
-use Rattle.graph.proofs.GroundFacts.{offsets-long, rows-rise, rows-within, row-ends, row-target, target-below}
+use Rattle.graph.specs.Steps.{GraphRows}
+use Rattle.graph.proofs.GraphRowsFacts.{offsets-long, rows-rise, rows-within, row-ends, row-target, target-below}
 use Rattle.model.specs.Paths.{edgeTarget, Labels, isSet}
 use Rattle.model.specs.State as model
 use Rattle.model.specs.Table.{holdAt, look, move}
@@ -33,7 +33,7 @@ pub record EdgeSmall (offsets targets : List ℕ) (n u e : ℕ) : Type 0 where
   pub vertex-small : u + 1 < 65536
   pub target-below : getD targets e 0 < n
 
-module _ {offsets targets : List ℕ} {n : ℕ} (ground : Ground offsets targets n) where
+module _ {offsets targets : List ℕ} {n : ℕ} (ground : GraphRows offsets targets n) where
   -- the engine's phase at edge e of u is the model's
   pub hold-shown : (u e : ℕ) → u < n → getD offsets u 0 ≤ e
       → phaseOf offsets (holdFrom offsets u e) ≡ holdAt (rowsOf offsets targets) u (e - getD offsets u 0)
@@ -98,7 +98,7 @@ module _ (offsets targets distances : List ℕ) (u e t word : ℕ) (target : t �
 
 -- At an edge of u.
 
-module _ {offsets targets : List ℕ} {n : ℕ} (ground : Ground offsets targets n) {u e : ℕ} (edge : EdgeOf offsets n u e) where
+module _ {offsets targets : List ℕ} {n : ℕ} (ground : GraphRows offsets targets n) {u e : ℕ} (edge : EdgeOf offsets n u e) where
   -- edge e of all is the model's edge of u
   edge-target : edgeTarget (rowsOf offsets targets) u (e - getD offsets u 0) ≡ getD targets e 0
   edge-target =
@@ -122,7 +122,7 @@ module _ {offsets targets : List ℕ} {n : ℕ} (ground : Ground offsets targets
 
 -- The three moves without a bag.
 
-module _ {offsets targets : List ℕ} (distances : List ℕ) (ground : Ground offsets targets (length distances)) {u e : ℕ}
+module _ {offsets targets : List ℕ} (distances : List ℕ) (ground : GraphRows offsets targets (length distances)) {u e : ℕ}
     (edge : EdgeOf offsets (length distances) u e) where
   -- the engine looks where the model does
   look-shown : (parents : List ℕ)
@@ -189,7 +189,7 @@ module _ {offsets targets : List ℕ} (distances : List ℕ) (ground : Ground of
 pub fits-as : (offsets : List ℕ) (n : ℕ) {phase p : Phase} → phase ≡ p → Fits offsets n phase → Fits offsets n p
 fits-as offsets n is fits = subst (Fits offsets n) is fits
 
-module _ {offsets targets : List ℕ} (distances : List ℕ) (ground : Ground offsets targets (length distances)) (phase : Phase)
+module _ {offsets targets : List ℕ} (distances : List ℕ) (ground : GraphRows offsets targets (length distances)) (phase : Phase)
     (fits : Fits offsets (length distances) phase) (layer : ℕ) (parents : List ℕ) where
   -- look
   pub advanced-look : (u e : ℕ) (phase′ : Phase) → phase ≡ Holding u e → phase′ ≡ lookAt offsets targets distances u e

@@ -9,7 +9,7 @@ use lib.Dec.{eqb, ltb}
 use lib.ListN.{length, getD, replicate, set}
 use Rattle.numbers.specs.Numbers.{maxVertices, maxWorkers, unset}
 use Rattle.graph.specs.Graph.{rowsOf}
-use Rattle.graph.specs.Steps.{Ground}
+use Rattle.graph.specs.Steps.{GraphRows}
 use Rattle.pennant.specs.Bag.{Bag}
 use Rattle.pennant.specs.Held.{copies}
 use Rattle.bag.specs.Nodes.{heldBy, emptySlots}
@@ -85,24 +85,24 @@ pub record Stocked (worker : Worker) (left right number : List ℕ) : Type 0 whe
 
 -- `begin`: a free worker takes, if it can; so in every graph that the offsets belong to
 pub record Begun (worker : Worker) (offsets left right number left′ : List ℕ) (worker′ : Worker) (met : Bool) : Type 0 where
-  pub tried : (targets : List ℕ) (n : ℕ) → Ground offsets targets n → (layer : ℕ) (distances parents : List ℕ)
+  pub tried : (targets : List ℕ) (n : ℕ) → GraphRows offsets targets n → (layer : ℕ) (distances parents : List ℕ)
       → Tried (moveOf (rowsOf offsets targets) layer (labelsOf distances parents) (workerOf offsets left right number worker))
       (workerOf offsets left right number worker, labelsOf distances parents)
       (workerOf offsets left′ right number worker′, labelsOf distances parents) met
   pub apart : Apart (worker ∷ []) left right number left′ right number (worker′ ∷ [])
-  pub phase-fits : (targets : List ℕ) (n : ℕ) → Ground offsets targets n → Fits offsets n (worker′ .phase)
+  pub phase-fits : (targets : List ℕ) (n : ℕ) → GraphRows offsets targets n → Fits offsets n (worker′ .phase)
 
 -- `stow`: a worker that has named its target inserts it and passes on
 pub record Stowed (worker : Worker) (offsets left right number left′ right′ number′ : List ℕ) (worker′ : Worker) : Type 0 where
-  pub made : (targets : List ℕ) (n : ℕ) → Ground offsets targets n → Fits offsets n (worker .phase) → (layer : ℕ) (distances parents : List ℕ)
+  pub made : (targets : List ℕ) (n : ℕ) → GraphRows offsets targets n → Fits offsets n (worker .phase) → (layer : ℕ) (distances parents : List ℕ)
       → moveOf (rowsOf offsets targets) layer (labelsOf distances parents) (workerOf offsets left right number worker)
       ≡ some (workerOf offsets left′ right′ number′ worker′, labelsOf distances parents)
   pub apart : Apart (worker ∷ []) left right number left′ right′ number′ (worker′ ∷ [])
-  pub phase-fits : (targets : List ℕ) (n : ℕ) → Ground offsets targets n → Fits offsets n (worker .phase) → Fits offsets n (worker′ .phase)
+  pub phase-fits : (targets : List ℕ) (n : ℕ) → GraphRows offsets targets n → Fits offsets n (worker .phase) → Fits offsets n (worker′ .phase)
 
 -- `work`: what it takes for granted
 pub record Workable (worker : Worker) (layer : ℕ) (offsets targets distances parents left right number : List ℕ) : Type 0 where
-  pub rows : Ground offsets targets (length distances)
+  pub rows : GraphRows offsets targets (length distances)
   pub parents-all : length parents ≡ length distances
   pub layer-below : layer < length distances
   pub phase-fits : Fits offsets (length distances) (worker .phase)

@@ -5,7 +5,7 @@ ghost use Prim.Native.Nat.{ℕ, _+_, _≤_, _<_};
 ghost use lib.ListN.{length, getD};
 ghost use Rattle.pennant.specs.Held.{copies};
 ghost use Rattle.bag.specs.Nodes.{heldBy};
-ghost use Rattle.graph.specs.Steps.{Ground};
+ghost use Rattle.graph.specs.Steps.{GraphRows};
 ghost use Rattle.workers.specs.Steps.{Fits, holdFrom, lookAt, Between, Advanced, Stocked, Begun, Stowed, Workable, Worked};
 use crate::Phase;
 use crate::Turned;
@@ -55,7 +55,7 @@ fn advance(
     distances: &mut [u16],
     parents: &mut [u16],
 ) -> Phase
-    requires { ⌜ Ground (now offsets) (now targets) (length (now distances)) ⌝ }
+    requires { ⌜ GraphRows (now offsets) (now targets) (length (now distances)) ⌝ }
     requires { ⌜ length (now parents) ≡ length (now distances) ⌝ }
     requires { ⌜ layer < length (now distances) ⌝ }
     requires { ⌜ Fits (now offsets) (length (now distances)) phase ⌝ }

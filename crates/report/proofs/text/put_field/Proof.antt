@@ -21,7 +21,7 @@ returns c =
     let byte = c .before .before in
     let number = byte .before .before .before .before in
     let a = number .before .before .before .args in
-    (omega arith, prints-then (decimal (a .x)) (a .end ∷ []) (number .put-number .ensures .1) (byte .put-byte .ensures .1))
+    (omega arith, prints-then (decimal (a .x)) (a .delimiter ∷ []) (number .put-number .ensures .1) (byte .put-byte .ensures .1))
 
 pub put-field-spec : {M : Type 1} → statement M
 put-field-spec = tie.close (tie.spec put-number-requires put-byte-requires same-length returns)

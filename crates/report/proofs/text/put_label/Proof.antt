@@ -29,8 +29,8 @@ returns c =
     let a = test .before .before .args in
     let text : labelText (a .word) ≡ dash ∷ [] = label-unset (a .word) (test .if1 .taken) in (
       omega (arith, ap length text),
-      prints-same (prints-then (dash ∷ []) (a .end ∷ []) (mark .put-byte .ensures .1) (byte .put-byte2 .ensures .1))
-          (ap (λ (t : List ℕ). t ++ (a .end ∷ [])) (sym text)),
+      prints-same (prints-then (dash ∷ []) (a .delimiter ∷ []) (mark .put-byte .ensures .1) (byte .put-byte2 .ensures .1))
+          (ap (λ (t : List ℕ). t ++ (a .delimiter ∷ [])) (sym text)),
     )
 
 put-field-requires : tie.Need-put-field-requires
@@ -47,7 +47,7 @@ returns-2 c =
     let test = field .before .before in
     let a = test .before .before .args in
     let text : labelText (a .word) ≡ decimal (a .word) = label-set (a .word) (test .if1 .left) in
-    (omega (arith, ap length text), prints-same (field .put-field .ensures .1) (ap (λ (t : List ℕ). t ++ (a .end ∷ [])) (sym text)))
+    (omega (arith, ap length text), prints-same (field .put-field .ensures .1) (ap (λ (t : List ℕ). t ++ (a .delimiter ∷ [])) (sym text)))
 
 pub put-label-spec : {M : Type 1} → statement M
 put-label-spec =

@@ -13,8 +13,8 @@ mul-places c = search needs
 add-places : tie.Need-add-places
 add-places c = search needs
 
-add-starts : tie.Need-add-starts
-add-starts c = search needs
+add-offset-count : tie.Need-add-offset-count
+add-offset-count c = search needs
 
 cast-run : tie.Need-cast-run
 cast-run c = search needs
@@ -108,7 +108,7 @@ play-spec =
     (tie.spec
     mul-places
     add-places
-    add-starts
+    add-offset-count
     cast-run
     slice-aggregate-run
     slice-aggregate-run-2

@@ -1,6 +1,6 @@
 -- `verify::call::check` meets its contract: each return is one of the ways out, and all that is promised follows from its outcome.
 use borrow.Author.Needs.{needs}
-use Rattle.verify.specs.Check.{Lent, lengthsOf}
+use Rattle.verify.specs.Check.{CheckLent, lentLengths}
 use Rattle.verify.specs.Promise.{lentLists}
 use Rattle.verify.proofs.JudgeFacts.{early-passed}
 use Rattle.verify.proofs.CallFacts.{call-judged, check-early, check-chains, check-ready, check-wrong, check-right}
@@ -8,7 +8,7 @@ use Rattle.verify.proofs.call.check.Statement.{statement}
 use Rattle.verify.proofs.call.check.Tie as tie
 
 -- the lists that were lent for writing
-abbrev lentOf : tie.Start → Lent
+abbrev lentOf : tie.Start → CheckLent
 lentOf s =
     let a = s .args in
     lentLists (a .offsets .now) (a .targets .now) (a .marks .now)
@@ -30,7 +30,7 @@ unchain-requires c κs =
     let judged = passed .before .before in
     let s = judged .before .before .before .before .before .before .before in
     let a = s .args in
-    let lengths = lengthsOf (a .distances .now) (a .parents .now) (lentOf s) in
+    let lengths = lentLengths (a .distances .now) (a .parents .now) (lentOf s) in
     let told = early-passed (a .file .now) (a .source) lengths (judged .judge .ensures) (passed .if1 .left) in
     (told .scanned, (told .long .offsets-there, (told .long .targets-there, told .long .marks-there)))
 

@@ -6,8 +6,8 @@ use Rattle.model.specs.Words.{labelsIn}
 use Rattle.verify.proofs.call.result_wrong_in.Statement.{statement}
 use Rattle.verify.proofs.call.result_wrong_in.Tie as tie
 
-add-starts : tie.Need-add-starts
-add-starts c = search needs
+add-offset-count : tie.Need-add-offset-count
+add-offset-count c = search needs
 
 slice-aggregate-result-wrong : tie.Need-slice-aggregate-result-wrong
 slice-aggregate-result-wrong c =
@@ -40,7 +40,7 @@ pub result-wrong-in-spec : {M : Type 1} → statement M
 result-wrong-in-spec =
     tie.close
     (tie.spec
-    add-starts
+    add-offset-count
     slice-aggregate-result-wrong
     slice-aggregate-result-wrong-2
     slice-aggregate-result-wrong-3

@@ -1,4 +1,4 @@
--- `report::whole::explore` meets its contract: the search of the input's parts, line one, and the vertices' lines with 0 and 21.
+-- `report::program::search_and_print` meets its contract: the search of the input's parts, line one, and the vertices' lines with 0 and 21.
 use mathlib.Core.Path.{_≡_, ap}
 use mathlib.Core.Logic.{⊎-elim}
 use mathlib.Core.List.{List}
@@ -9,15 +9,15 @@ use borrow.Author.Needs.{needs}
 use borrow.Rule.Slice.PartAt.{part-to-end}
 use Rattle.graph.specs.File.{word}
 use Rattle.model.specs.Call.{Outcome, outcomeOfSearch}
-use Rattle.report.specs.Input.{mostVertices, eventsIn, fileIn, programLists}
+use Rattle.report.specs.Input.{programVertices, eventsIn, fileIn, programLists}
 use Rattle.report.specs.Respond.{searched}
-use Rattle.report.proofs.InputFacts.{Passed, own-passed, file-as, count-as}
-use Rattle.report.proofs.RespondFacts.{plays-success, plays-unfinished, plays-neither, events-part, searched-as, explore-line, explore-lines}
-use Rattle.report.proofs.whole.explore.Statement.{statement}
-use Rattle.report.proofs.whole.explore.Tie as tie
+use Rattle.report.proofs.InputFacts.{SizesPassed, own-passed, file-as, count-as}
+use Rattle.report.proofs.RespondFacts.{plays-success, plays-unfinished, plays-neither, events-part, searched-as, search-and-print-line, search-and-print-lines}
+use Rattle.report.proofs.program.search_and_print.Statement.{statement}
+use Rattle.report.proofs.program.search_and_print.Tie as tie
 
 -- the input passes the program's own order
-passes : (c : tie.Start) → Passed (c .args .input .now)
+passes : (c : tie.Start) → SizesPassed (c .args .input .now)
 passes c = own-passed (c .args .input .now) (c .pre .0)
 
 -- so it has three words and more
@@ -115,7 +115,7 @@ same-file : (c : tie.After-search) → file-of c ≡ fileIn (input-of c)
 same-file c = file-as (input-of c) (read-at c .word .ensures .0) (part-to-end (input-of c) (start-of c))
 
 -- its n is within the program's own size
-few-vertices : (c : tie.After-search) {n : ℕ} → n ≡ word (file-of c) 0 → n ≤ mostVertices
+few-vertices : (c : tie.After-search) {n : ℕ} → n ≡ word (file-of c) 0 → n ≤ programVertices
 few-vertices c e = omega (arith, count-as (input-of c) (same-file c) e, passes (entry c) .sizes .few-vertices)
 
 -- the search is the program's
@@ -146,7 +146,7 @@ put-vertex-lines-requires c κs =
     let counted = c .before .before in
     let printed = counted .before .before .before .before .before .before in
     let s = searched-at printed in
-    let few : counted .word4 .result ≤ mostVertices = few-vertices s (counted .word4 .ensures .0) in
+    let few : counted .word4 .result ≤ programVertices = few-vertices s (counted .word4 .ensures .0) in
     let short : printed .put-first-line .result ≤ 84 = printed .put-first-line .ensures .0 in
     let kept = counted .before .before .before .before .before in (
       omega (arith, kept .output .given, few, short, entry s .pre .1),
@@ -165,7 +165,7 @@ returns c =
     let printed = joined .before .before .before .before in
     let s = searched-at printed in
     let played = ⊎-elim (λ w. plays-success (w .taken)) (λ w. plays-unfinished (w .0 .left) (w .2 .taken)) (joined .if1 .came) in
-    explore-lines (input-of s) (entry s .args .output .now) (told s (s .search .ensures .0))
+    search-and-print-lines (input-of s) (entry s .args .output .now) (told s (s .search .ensures .0))
     played (count-as (input-of s) (same-file s) (counted .word4 .ensures .0)) (printed .put-first-line .ensures .1) (listed .put-vertex-lines .ensures)
 
 same-length-2 : tie.Need-same-length-2
@@ -177,11 +177,11 @@ returns-2 c =
     let joined = c .before .before in
     let printed = joined .before .before .before .before in
     let s = searched-at printed in
-    explore-line (input-of s) (entry s .args .output .now) (told s (s .search .ensures .0))
+    search-and-print-line (input-of s) (entry s .args .output .now) (told s (s .search .ensures .0))
     (plays-neither (joined .if1 .left) (c .if2 .left)) (printed .put-first-line .ensures .1)
 
-pub explore-spec : {M : Type 1} → statement M
-explore-spec =
+pub search-and-print-spec : {M : Type 1} → statement M
+search-and-print-spec =
     tie.close
     (tie.spec
     word-requires

@@ -9,10 +9,10 @@ use lib.Seq.{getD-take, getD-drop}
 use Rattle.lists.proofs.Tests.{reaches-at}
 use Rattle.graph.specs.Graph.{edges, offsetsOf, rowsOf}
 use Rattle.graph.specs.Write.{rowCount}
-use Rattle.graph.specs.Steps.{Ground}
+use Rattle.graph.specs.Steps.{GraphRows}
 use Rattle.graph.proofs.Bridge.{Rows, graph-rows, offsets-count, length-rows, row-at, offsets-rise, offsets-end, row-between}
 
-module _ {offsets targets : List ℕ} {n : ℕ} (ground : Ground offsets targets n) where
+module _ {offsets targets : List ℕ} {n : ℕ} (ground : GraphRows offsets targets n) where
   -- the offsets don't fall and end where the targets do
   ground-rows : Rows offsets targets
   ground-rows =

@@ -17,7 +17,7 @@ use search::search;
 
 // The search of an input that the program's own order does not refuse, with the program's lists, and
 // its lines.
-fn explore(input: &[u8], output: &mut [u8]) -> usize
+fn search_and_print(input: &[u8], output: &mut [u8]) -> usize
     requires { ⌜ first (ownRefusals (now input)) ≡ success ⌝ }
     requires { ⌜ outputPlaces ≤ length (now output) ⌝ }
     ensures { λ r. ⌜
@@ -74,5 +74,5 @@ pub fn respond(input: &[u8], output: &mut [u8]) -> usize
     if number != numbers::SUCCESS {
         return put_first_line(output, number, 0, 0, 0);
     }
-    explore(input, output)
+    search_and_print(input, output)
 }

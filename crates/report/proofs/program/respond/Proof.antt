@@ -1,8 +1,8 @@
--- `report::whole::respond` meets its contract: an output that is too short, a refusal of the program's own, or the search's lines.
+-- `report::program::respond` meets its contract: an output that is too short, a refusal of the program's own, or the search's lines.
 use borrow.Author.Needs.{needs}
 use Rattle.report.proofs.RespondFacts.{respond-short, respond-refused, respond-lines}
-use Rattle.report.proofs.whole.respond.Statement.{statement}
-use Rattle.report.proofs.whole.respond.Tie as tie
+use Rattle.report.proofs.program.respond.Statement.{statement}
+use Rattle.report.proofs.program.respond.Tie as tie
 
 returns : tie.Need-returns
 returns c =
@@ -28,8 +28,8 @@ returns-2 c =
     respond-refused (a .input .now) (a .output .now) (long .if1 .left) (judged .own-number .ensures) (refused .if2 .taken)
     (printed .put-first-line .ensures .1)
 
-explore-requires : tie.Need-explore-requires
-explore-requires c κs = search needs
+search-and-print-requires : tie.Need-search-and-print-requires
+search-and-print-requires c κs = search needs
 
 same-length-2 : tie.Need-same-length-2
 same-length-2 c = search needs
@@ -41,7 +41,7 @@ returns-3 c =
     let judged = accepted .before in
     let long = judged .before in
     let a = long .before .before .before .args in
-    respond-lines (a .input .now) (a .output .now) (long .if1 .left) (judged .own-number .ensures) (accepted .if2 .left) (printed .explore .ensures)
+    respond-lines (a .input .now) (a .output .now) (long .if1 .left) (judged .own-number .ensures) (accepted .if2 .left) (printed .search-and-print .ensures)
 
 pub respond-spec : {M : Type 1} → statement M
 respond-spec =
@@ -52,6 +52,6 @@ respond-spec =
     put-first-line-requires
     same-length
     returns-2
-    explore-requires
+    search-and-print-requires
     same-length-2
     returns-3)
