@@ -38,7 +38,7 @@ fn is_filled(list: &[u16], from: usize, value: u16) -> bool {
 
 // Whether the first n + 1 offsets and m targets are these, the first m marks are 0, and what lies
 // past them is as it was.
-fn are_rows(
+pub fn are_rows(
     offsets: &[u16],
     targets: &[u16],
     marks: &[u16],
@@ -66,13 +66,13 @@ pub fn are_nodes_cleared(left: &[u16], right: &[u16], number: &[u16], count: usi
 }
 
 // Whether offsets and targets are as they were, and the marks but for the first `zeros`.
-fn are_rows_kept(offsets: &[u16], targets: &[u16], marks: &[u16], zeros: usize) -> bool {
+pub fn are_rows_kept(offsets: &[u16], targets: &[u16], marks: &[u16], zeros: usize) -> bool {
     let rows = is_filled(offsets, 0, OFFSETS) & is_filled(targets, 0, TARGETS);
     rows & holds(marks, zeros, 0) & is_filled(marks, zeros, MARKS)
 }
 
 // How many marks are 0 after a refusal: with 5 and 6 the first m.
-fn cleared(number: usize, edges: u16) -> usize {
+pub fn cleared(number: usize, edges: u16) -> usize {
     if (number == 5) | (number == 6) {
         edges as usize
     } else {

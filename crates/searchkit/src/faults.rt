@@ -12,7 +12,7 @@ use testkit::files::put_words;
 pub const COMBINATIONS: u16 = 4096;
 
 // Whether the fault is there.
-fn has(combination: u16, power: u16) -> bool {
+pub fn has(combination: u16, power: u16) -> bool {
     if power == 0 {
         return false;
     }

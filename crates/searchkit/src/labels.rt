@@ -21,7 +21,7 @@ pub struct Judged {
 }
 
 // Whether there is an edge from one vertex to the other.
-fn has_edge(rows: &[u16], row_targets: &[u16], from: u16, to: u16) -> bool {
+pub fn has_edge(rows: &[u16], row_targets: &[u16], from: u16, to: u16) -> bool {
     let end = at(rows, after(from));
     let mut edge = at(rows, from);
     while edge < end {

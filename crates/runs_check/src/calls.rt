@@ -1,0 +1,140 @@
+// Calls of `verify::check`, each compared in full with what it must answer and leave. The lists may
+// be longer than what is lent of them.
+use searchkit::compare::MARKS;
+use searchkit::compare::OFFSETS;
+use searchkit::compare::TARGETS;
+use searchkit::compare::are_rows;
+use searchkit::compare::are_rows_kept;
+use searchkit::compare::cleared;
+use searchkit::requests::Lengths;
+use testkit::files;
+use testkit::words::prefix;
+
+// What is asked of a call: the source, n and m of the file, how much is lent of the file and of each
+// list; and the number that it must answer.
+pub struct Query {
+    pub source: usize,
+    pub vertices: u16,
+    pub edges: u16,
+    pub file: usize,
+    pub lengths: Lengths,
+    pub number: usize,
+}
+
+// Checks with the first places of the file and of each list.
+fn check_at(
+    file: &[u8],
+    query: Query,
+    distances: &[u16],
+    parents: &[u16],
+    offsets: &mut [u16],
+    targets: &mut [u16],
+    marks: &mut [u16],
+) -> usize {
+    let lengths = query.lengths;
+    let f = files::prefix(file, query.file);
+    let d = prefix(distances, lengths.distances);
+    let p = prefix(parents, lengths.parents);
+    let o = prefix(offsets, lengths.offsets);
+    let t = prefix(targets, lengths.targets);
+    let k = prefix(marks, lengths.marks);
+    verify::check(
+        &file[..f],
+        query.source,
+        &distances[..d],
+        &parents[..p],
+        &mut offsets[..o],
+        &mut targets[..t],
+        &mut marks[..k],
+    )
+}
+
+// Whether the lists are as a call with this number leaves them: with 0 and 10 the rows are written
+// and the first m marks are 0; with 5 and 6 only those marks are; else nothing is changed.
+fn is_left(
+    query: Query,
+    offsets: &[u16],
+    targets: &[u16],
+    marks: &[u16],
+    rows: &[u16],
+    row_targets: &[u16],
+) -> bool {
+    if (query.number == 0) | (query.number == 10) {
+        let n = query.vertices as usize;
+        let m = query.edges as usize;
+        return are_rows(offsets, targets, marks, rows, row_targets, n, m);
+    }
+    let zeros = cleared(query.number, query.edges);
+    are_rows_kept(offsets, targets, marks, zeros)
+}
+
+// Whether the call answers its number and leaves the lists as it must.
+fn answers_in(
+    file: &[u8],
+    query: Query,
+    distances: &[u16],
+    parents: &[u16],
+    rows: &[u16],
+    row_targets: &[u16],
+    offsets: &mut [u16],
+    targets: &mut [u16],
+    marks: &mut [u16],
+) -> bool {
+    let number = check_at(file, query, distances, parents, offsets, targets, marks);
+    let left = is_left(query, offsets, targets, marks, rows, row_targets);
+    (number == query.number) & left
+}
+
+// With room for every n and m of document 01, and a few places more.
+fn answers_large(
+    file: &[u8],
+    query: Query,
+    distances: &[u16],
+    parents: &[u16],
+    rows: &[u16],
+    row_targets: &[u16],
+) -> bool {
+    let mut offsets = [OFFSETS; 4102];
+    let mut targets = [TARGETS; 32773];
+    let mut marks = [MARKS; 32773];
+    answers_in(
+        file,
+        query,
+        distances,
+        parents,
+        rows,
+        row_targets,
+        &mut offsets,
+        &mut targets,
+        &mut marks,
+    )
+}
+
+// Whether the call answers its number and leaves the lists as it must, with small lists where they
+// are enough. `rows` and `row_targets` are the rows of the file.
+pub fn answers(
+    file: &[u8],
+    query: Query,
+    distances: &[u16],
+    parents: &[u16],
+    rows: &[u16],
+    row_targets: &[u16],
+) -> bool {
+    if (query.vertices > 40) | (query.edges > 120) {
+        return answers_large(file, query, distances, parents, rows, row_targets);
+    }
+    let mut offsets = [OFFSETS; 52];
+    let mut targets = [TARGETS; 132];
+    let mut marks = [MARKS; 132];
+    answers_in(
+        file,
+        query,
+        distances,
+        parents,
+        rows,
+        row_targets,
+        &mut offsets,
+        &mut targets,
+        &mut marks,
+    )
+}
