@@ -10,8 +10,8 @@ use searchkit::requests::Lengths;
 use testkit::files;
 use testkit::words::prefix;
 
-// What is asked of a call: the source, n and m of the file, how much is lent of the file and of each
-// list; and the number that it must answer.
+// What is asked of a call: the source, n and m of the file, how much is lent of the file and of
+// each list; and the number that it must answer.
 pub struct Query {
     pub source: usize,
     pub vertices: u16,

@@ -19,8 +19,8 @@ use testkit::words::put;
 // No distance, no parent.
 pub const UNSET: u16 = 65535;
 
-// Makes the edge's source the parent of its target, where that is one farther: the first time in any
-// case, later by the toss of a coin.
+// Makes the edge's source the parent of its target, where that is one farther: the first time
+// always, later by the toss of a coin.
 fn offer(source: u16, target: u16, distances: &[u16], parents: &mut [u16], seed: u64) {
     let nearer = at(distances, source);
     let old = at(parents, target);

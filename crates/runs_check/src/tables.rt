@@ -1,4 +1,4 @@
-// Case A of document 01 with faults: in the file, in the source, in one list's length, in the result.
+// Case A of document 01 with faults: in the file, the source, one list's length, the result.
 use crate::calls::Query;
 use crate::calls::answers;
 use crate::sums::Outcome;
@@ -10,7 +10,7 @@ use searchkit::requests::needs;
 use testkit::files::put_words;
 use testkit::words::put;
 
-// A vertex, its distance and its parent in a result for case A: five wrong results and two right ones.
+// A vertex, its distance and its parent in a result for case A: five wrong results, two right ones.
 const LABELS: [[u16; 3]; 7] = [
     // the distance one more
     [3, 3, 1],
@@ -30,8 +30,8 @@ const LABELS: [[u16; 3]; 7] = [
 // The first right one.
 const GOOD: u16 = 5;
 
-// How many cases there are: all results with each of 36 files, and with each of 12 sources; every set
-// of ten faults with each of five lists and wrong results.
+// How many cases there are: all results with each of 36 files, and with each of 12 sources; every
+// set of ten faults with each of five lists and wrong results.
 pub const REFUSALS: u16 = 252;
 
 pub const SOURCES: u16 = 84;
@@ -194,8 +194,8 @@ fn fault_query(combination: u16, choice: u16) -> Query {
     }
 }
 
-// A set of faults, with one list as the short one and one wrong result. The faults of the search alone
-// are left out.
+// A set of faults, with one list as the short one and one wrong result. The faults of the search
+// alone are left out.
 pub fn fault(case: u16) -> Outcome {
     let combination = case % 64 + case / 64 % 16 * 256;
     let choice = case / 1024;

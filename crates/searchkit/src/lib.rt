@@ -1,5 +1,5 @@
-// What the runs of the search share and that needs no search: requests, drawn schedules, a plain
-// queue search, comparisons of lists and labels, and the tables of cases.
+// What the runs of the search and of the checker share and that needs neither: requests, drawn
+// schedules, a plain queue search, comparisons of lists and labels, and the tables of cases.
 //
 // Every read and write of a list is guarded, so that no function here requires anything.
 pub mod base;

@@ -11,7 +11,8 @@ Inv-loop group first last plan lengths file sources rows row-targets wanted dist
     (last < 65536) × (length distances ≡ length distances₀) × (length parents ≡ length parents₀)
 
 abbrev μ-loop : tie.MeasureT-loop
-μ-loop group first last plan lengths file sources rows row-targets wanted distances₀ parents₀ sums₀ case₀ distances parents sums case = last - case
+μ-loop group first last plan lengths file sources rows row-targets wanted distances₀ parents₀ sums₀ case₀ distances parents sums case =
+    last - case
 
 none-requires : tie.Need-none-requires Inv-loop μ-loop
 none-requires c κs = search needs

@@ -7,7 +7,8 @@ use Rattle.runs_check.proofs.drawn.line.Statement.{statement}
 use Rattle.runs_check.proofs.drawn.line.Tie as tie
 
 abbrev Inv-loop : tie.InvT-loop
-Inv-loop edges sources₀ row-targets₀ rows₀ edge₀ sources row-targets rows edge = (edge ≤ edges) × (length sources ≡ length sources₀) × (length row-targets ≡ length row-targets₀) × (length rows ≡ length rows₀)
+Inv-loop edges sources₀ row-targets₀ rows₀ edge₀ sources row-targets rows edge =
+    (edge ≤ edges) × (length sources ≡ length sources₀) × (length row-targets ≡ length row-targets₀) × (length rows ≡ length rows₀)
 
 abbrev μ-loop : tie.MeasureT-loop
 μ-loop edges sources₀ row-targets₀ rows₀ edge₀ sources row-targets rows edge = edges - edge

@@ -7,7 +7,8 @@ use Rattle.runs_check.proofs.results.draw_parents.Statement.{statement}
 use Rattle.runs_check.proofs.results.draw_parents.Tie as tie
 
 abbrev Inv-loop : tie.InvT-loop
-Inv-loop plan sources row-targets distances parents₀ edge₀ state₀ parents edge state = (edge ≤ plan .edges) × (length parents ≡ length parents₀)
+Inv-loop plan sources row-targets distances parents₀ edge₀ state₀ parents edge state =
+    (edge ≤ plan .edges) × (length parents ≡ length parents₀)
 
 abbrev μ-loop : tie.MeasureT-loop
 μ-loop plan sources row-targets distances parents₀ edge₀ state₀ parents edge state = plan .edges - edge

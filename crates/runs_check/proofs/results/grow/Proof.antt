@@ -7,7 +7,8 @@ use Rattle.runs_check.proofs.results.grow.Statement.{statement}
 use Rattle.runs_check.proofs.results.grow.Tie as tie
 
 abbrev Inv-loop : tie.InvT-loop
-Inv-loop plan sources row-targets distances₀ parents₀ vertex₀ distances parents vertex = (vertex ≤ plan .vertices) × (length distances ≡ length distances₀) × (length parents ≡ length parents₀)
+Inv-loop plan sources row-targets distances₀ parents₀ vertex₀ distances parents vertex =
+    (vertex ≤ plan .vertices) × (length distances ≡ length distances₀) × (length parents ≡ length parents₀)
 
 abbrev μ-loop : tie.MeasureT-loop
 μ-loop plan sources row-targets distances₀ parents₀ vertex₀ distances parents vertex = plan .vertices - vertex

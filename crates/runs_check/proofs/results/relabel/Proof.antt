@@ -7,7 +7,8 @@ use Rattle.runs_check.proofs.results.relabel.Statement.{statement}
 use Rattle.runs_check.proofs.results.relabel.Tie as tie
 
 abbrev Inv-loop : tie.InvT-loop
-Inv-loop kind plan distances₀ parents₀ layer vertex₀ distances parents vertex = (vertex ≤ plan .vertices) × (length distances ≡ length distances₀) × (length parents ≡ length parents₀)
+Inv-loop kind plan distances₀ parents₀ layer vertex₀ distances parents vertex =
+    (vertex ≤ plan .vertices) × (length distances ≡ length distances₀) × (length parents ≡ length parents₀)
 
 abbrev μ-loop : tie.MeasureT-loop
 μ-loop kind plan distances₀ parents₀ layer vertex₀ distances parents vertex = plan .vertices - vertex

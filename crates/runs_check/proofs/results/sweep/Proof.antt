@@ -7,7 +7,8 @@ use Rattle.runs_check.proofs.results.sweep.Statement.{statement}
 use Rattle.runs_check.proofs.results.sweep.Tie as tie
 
 abbrev Inv-loop : tie.InvT-loop
-Inv-loop edges sources row-targets distances₀ parents₀ edge₀ distances parents edge = (edge ≤ edges) × (length distances ≡ length distances₀) × (length parents ≡ length parents₀)
+Inv-loop edges sources row-targets distances₀ parents₀ edge₀ distances parents edge =
+    (edge ≤ edges) × (length distances ≡ length distances₀) × (length parents ≡ length parents₀)
 
 abbrev μ-loop : tie.MeasureT-loop
 μ-loop edges sources row-targets distances₀ parents₀ edge₀ distances parents edge = edges - edge
