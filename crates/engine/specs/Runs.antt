@@ -3,7 +3,7 @@
 use mathlib.Core.Path.{_≡_}
 use mathlib.Core.Bool.{cond}
 use mathlib.Core.List.{List, [], _∷_, map}
-use Prim.Native.Nat.{ℕ, _+_, _*_, _≤_, _<_}
+use Prim.Native.Nat.{ℕ, _+_, _*_, _≤_}
 use lib.ListN.{length}
 use Rattle.numbers.specs.Numbers.{maxVertices, maxWorkers, maxEvents, success, unfinished}
 use Rattle.graph.specs.Graph.{rowsOf}
@@ -12,7 +12,7 @@ use Rattle.pennant.specs.Held.{one}
 use Rattle.bag.specs.Nodes.{heldBy}
 use Rattle.bag.specs.Promises.{Pooled, weighNodes, weighFree}
 use Rattle.model.specs.State.{openingLabels}
-use Rattle.model.specs.Play.{Run, play}
+use Rattle.model.specs.Play.{Run}
 use Rattle.model.specs.Call.{nodePlaces}
 use Rattle.model.specs.Words.{wordOf, labelsOf}
 use Rattle.model.specs.Demand.{Accepted}

@@ -3,10 +3,10 @@
 ghost use mathlib.Core.Path.{_≡_};
 ghost use mathlib.Core.List.{[], _∷_, _++_};
 ghost use Prim.Native.Nat.{_+_, _*_, _<_, _≤_};
-ghost use lib.ListN.{length, getD};
+ghost use lib.ListN.{length};
 ghost use Rattle.model.specs.Call as call;
 ghost use Rattle.report.specs.Input.{programVertices};
-ghost use Rattle.report.specs.Text.{space, lineFeed, decimal, labelText, firstLine, vertexLine, vertexLines};
+ghost use Rattle.report.specs.Text.{decimal, labelText, firstLine, vertexLine, vertexLines};
 ghost use Rattle.report.specs.Printed.{Prints};
 use graph::words::element;
 

@@ -1,6 +1,6 @@
 -- The checker's condition as a test that computes, vertex by vertex and edge by edge, with no path in it. That it is document 01's condition, paths
 -- and all, is proved in proofs/Exact.antt and promised in Promise.antt.
-use mathlib.Core.Bool.{Bool, true, false, cond, not, _||_}
+use mathlib.Core.Bool.{Bool, true, cond, not, _||_}
 use mathlib.Core.List.{List}
 use mathlib.Core.Option.{Option, none, some}
 use Prim.Native.Nat.{ℕ, suc}

@@ -4,17 +4,14 @@ use mathlib.Core.Bool.{Bool, true, false, cond}
 use mathlib.Core.List.{List}
 use mathlib.Core.Option.{none, some}
 use Prim.Native.Nat.{ℕ, suc, _+_, _-_, _≤_, _<_}
-use native.Mathlib.Numerals.{add-one}
 use native.Mathlib.Omega.{arith}
 use lib.Dec.{ltb, eqb}
-use lib.ListN.{length, getD, take, drop, set}
-use lib.Seq.{getD-take, getD-drop}
+use lib.ListN.{length, getD, set}
 use borrow.Author.Tests.{ltb-true, ltb-false, lt-ltb, le-ltb, ne-eqb}
 use Rattle.numbers.specs.Numbers.{unset}
-use Rattle.lists.proofs.Tests.{reaches-at}
-use Rattle.graph.specs.Graph.{edges, offsetsOf, rowsOf}
+use Rattle.graph.specs.Graph.{edges, rowsOf}
 use Rattle.graph.specs.Steps.{GraphRows}
-use Rattle.graph.proofs.GraphRowsFacts.{offsets-long, rows-rise, rows-within, row-ends, row-target, target-below}
+use Rattle.graph.proofs.GraphRowsFacts.{offsets-long, rows-within, row-ends, row-target, target-below}
 use Rattle.model.specs.Paths.{edgeTarget, Labels, isSet}
 use Rattle.model.specs.State as model
 use Rattle.model.specs.Table.{holdAt, look, move}

@@ -7,7 +7,7 @@ use mathlib.Core.Option.{Option, none, some}
 use Prim.Native.Nat.{ℕ, _+_, _≤_, _<_}
 use lib.Dec.{eqb, ltb}
 use lib.ListN.{length, getD, replicate, set}
-use Rattle.numbers.specs.Numbers.{maxVertices, maxWorkers, unset}
+use Rattle.numbers.specs.Numbers.{maxWorkers, unset}
 use Rattle.graph.specs.Graph.{rowsOf}
 use Rattle.graph.specs.Steps.{GraphRows}
 use Rattle.pennant.specs.Bag.{Bag}

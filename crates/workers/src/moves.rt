@@ -1,6 +1,5 @@
 // One worker's moves: take from the input bag, look at an edge, mark, name, stow.
 ghost use mathlib.Core.Path.{_≡_};
-ghost use mathlib.Core.List.{[], _∷_};
 ghost use Prim.Native.Nat.{ℕ, _+_, _≤_, _<_};
 ghost use lib.ListN.{length, getD};
 ghost use Rattle.pennant.specs.Held.{copies};
