@@ -3,7 +3,7 @@
 ghost use Rattle.bag.specs.Promises.{Pooled};
 ghost use Rattle.bagkit.specs.Family.{Room, slotsOf};
 use bag::Bag;
-use bagkit::census::are_parts;
+use bagkit::contents::are_parts;
 use bagkit::counts::add_nodes;
 use bagkit::counts::are_ones;
 use bagkit::family;

@@ -2,7 +2,7 @@
 // there once.
 ghost use Rattle.bagkit.specs.Family.{Room};
 use bag::Bag;
-use bagkit::census::are_parts;
+use bagkit::contents::are_parts;
 use bagkit::family;
 use testkit::tally::Tally;
 

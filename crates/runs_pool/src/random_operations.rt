@@ -7,7 +7,7 @@ ghost use lib.ListN.{length};
 ghost use Rattle.bag.specs.Promises.{Pooled};
 ghost use Rattle.bagkit.specs.Family.{Room, slotsOf};
 use bag::Bag;
-use bagkit::census::add_bag;
+use bagkit::contents::add_bag;
 use bagkit::counts::add_nodes;
 use bagkit::counts::are_ones;
 use bagkit::counts::copy_row;

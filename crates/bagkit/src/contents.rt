@@ -1,4 +1,4 @@
-// What bags hold, read off the lists by the test's own walk. The lists that a census writes are lent:
+// What bags hold, read off the lists by the test's own walk. The lists that are written are lent:
 // `nodes` is working room, `found` has the counts.
 use crate::counts::add_numbers;
 use crate::counts::are_ones;
