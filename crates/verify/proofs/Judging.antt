@@ -1,29 +1,31 @@
 -- What a check promises of its number follows from the number's definition alone: the tests on the input, then the result.
 use mathlib.Core.Path.{_≡_, refl, sym, _∙_}
-use mathlib.Core.Bool.{Bool, true, false, not, _||_}
+use mathlib.Core.Bool.{Bool, true, false, not}
 use mathlib.Core.List.{List, [], _∷_, _++_, map}
 use Prim.Native.Nat.{ℕ, zero, suc, _≤_, _<_}
 use native.Mathlib.Omega.{arith}
-use lib.Dec.{leb, ltb, eqb}
+use lib.Dec.{leb, eqb}
 use lib.ListN.{length, take, length-map}
-use borrow.Author.Tests.{ltb-false, leb-false, eqb-false, not-true, le-ltb, lt-leb}
+use borrow.Author.Tests.{eqb-false, not-true, le-ltb, lt-leb}
 use Rattle.numbers.specs.Numbers.{success, badSource, badResult, shortList}
 use Rattle.numbers.specs.Refusals.{Refusal, _gives_, first}
 use Rattle.numbers.proofs.First.{Positive, first-stop, first-skip, first-passed, first-append, first-append-stop, first-split, first-join, first-each}
-use Rattle.lists.proofs.Or.{or-none}
 use Rattle.lists.proofs.Overlay.{part-length}
 use Rattle.graph.specs.Graph.{Graph}
 use Rattle.graph.specs.File.{vertexCount, edgeCount, graphOf}
 use Rattle.graph.specs.Read.{headerRefusals, scanRefusals, chainRefusals, rowsShort}
+use Rattle.graph.specs.declared.ReadAnswer.{ReadAnswer}
 use Rattle.graph.proofs.FileLists.{length-graph}
 use Rattle.graph.proofs.WellFormed.{scan-bounded, graph-below, positive-header, positive-scan}
 use Rattle.model.specs.Paths.{Labels}
 use Rattle.model.specs.Words.{optionOf, labelsOf, labelsIn}
 use Rattle.model.proofs.Sound.{Ground}
 use Rattle.verify.specs.Certificate.{resultWrong}
-use Rattle.verify.specs.Check.{CheckLent, lentLengths, checkShort, checkEarly, checkInput, checkRefusals, checkNumber}
+use Rattle.verify.specs.Check.{CheckLent, CheckLengths, lentLengths, checkShort, checkEarly, checkInput, checkRefusals, checkNumber}
 use Rattle.verify.specs.Promise.{Passed, RightLists, Judged}
+use Rattle.verify.specs.Steps.{earlyAnswer}
 use Rattle.verify.proofs.Exact.{passes-right, right-passes}
+use Rattle.verify.proofs.JudgeFacts.{EarlyPassed, early-number, early-passed}
 
 module _ (file : List ℕ) (source : ℕ) (distances parents : List ℕ) (lent : CheckLent) where
   -- the file's graph
@@ -34,6 +36,14 @@ module _ (file : List ℕ) (source : ℕ) (distances parents : List ℕ) (lent :
   abbrev labels : Labels
   labels = labelsIn (vertexCount file) distances parents
 
+  -- the lengths of all lists
+  abbrev lengths : CheckLengths
+  lengths = lentLengths distances parents lent
+
+  -- what the tests before the chains answer
+  abbrev answer : ReadAnswer
+  answer = earlyAnswer file source lengths
+
   -- the tests on the input
   abbrev input : List Refusal
   input = checkInput file source distances parents lent
@@ -43,7 +53,7 @@ module _ (file : List ℕ) (source : ℕ) (distances parents : List ℕ) (lent :
   last = resultWrong g source labels gives badResult ∷ []
 
   -- the tests before the chains are walked have positive numbers
-  pub early-positive : Positive (checkEarly file source (lentLengths distances parents lent))
+  pub early-positive : Positive (checkEarly file source lengths)
   unfolding checkEarly headerRefusals scanRefusals
   early-positive = omega arith
 
@@ -79,7 +89,7 @@ module _ (file : List ℕ) (source : ℕ) (distances parents : List ℕ) (lent :
   unfolding checkInput checkEarly headerRefusals scanRefusals checkShort first
   parts-passed x =
       let n = vertexCount file in
-      let needed = checkShort n (edgeCount file) (lentLengths distances parents lent) in
+      let needed = checkShort n (edgeCount file) lengths in
       let rest = needed gives shortList ∷ [] in
       let past = leb n source in
       let far = le-ltb (length distances) n (x .distances-there) in
@@ -88,45 +98,28 @@ module _ (file : List ℕ) (source : ℕ) (distances parents : List ℕ) (lent :
       let below = lt-leb n source (x .source-below) in
       let q : first (past gives badSource ∷ rest) ≡ 0 = first-skip past badSource rest below ∙ first-skip needed shortList [] long in
       let p = first-join (scanRefusals file) (past gives badSource ∷ rest) (positive-scan file) (x .scan) q in
-      first-join (checkEarly file source (lentLengths distances parents lent)) (chainRefusals file) early-positive
+      first-join (checkEarly file source lengths) (chainRefusals file) early-positive
       (first-join (headerRefusals file) (scanRefusals file ++ past gives badSource ∷ rest) (positive-header file) (x .header) p)
       (x .whole)
 
   -- An input that passes every test.
   module _ (e : Passed file source distances parents lent) where
-    -- each part of the tests is passed
-    pub input-parts : Parts
-    unfolding checkInput checkEarly headerRefusals scanRefusals checkShort
-    input-parts =
-        let n = vertexCount file in
-        let needed = checkShort n (edgeCount file) (lentLengths distances parents lent) in
-        let rows = rowsShort n (edgeCount file) (length (lent .offsets)) (length (lent .targets)) (length (lent .marks)) in
-        let far = ltb (length distances) n in
-        let near = ltb (length parents) n in
-        let rest = needed gives shortList ∷ [] in
-        let past = leb n source in
-        let both = first-split (checkEarly file source (lentLengths distances parents lent)) (chainRefusals file) early-positive e in
-        let p = first-split (headerRefusals file) (scanRefusals file ++ past gives badSource ∷ rest) (positive-header file) (both .0) in
-        let q = first-split (scanRefusals file) (past gives badSource ∷ rest) (positive-scan file) (p .1) in
-        let r = first-passed past badSource rest (omega arith) (q .1) in
-        let w = first-passed needed shortList [] (omega arith) (r .1) in
-        let b = or-none (rows || far) near (w .0) in
-        let a = or-none rows far (b .0) in
-        record {
-          header = p .0;
-          scan = q .0;
-          source-below = leb-false n source (r .0);
-          rows-there = a .0;
-          distances-there = ltb-false (length distances) n (a .1);
-          parents-there = ltb-false (length parents) n (b .1);
-          whole = both .1;
-        }
+    -- the tests before the chains are passed
+    early : EarlyPassed file source lengths answer
+    unfolding checkInput
+    early =
+        early-passed file source lengths refl
+        (early-number file source lengths refl ∙ first-split (checkEarly file source lengths) (chainRefusals file) early-positive e .0)
+
+    -- n
+    vertices : answer .vertices ≡ vertexCount file
+    vertices = early .scanned .sized .vertices
 
     -- the graph's targets and the source are vertices
     source-ground : Ground g source
     source-ground = record {
-      below = rw (length-graph file) (graph-below file (scan-bounded file (input-parts .scan)));
-      starts = rw (length-graph file) (input-parts .source-below);
+      below = rw (length-graph file) (graph-below file (scan-bounded file (early .scanned .clean)));
+      starts = rw (length-graph file, ← vertices) (early .near);
     }
 
     -- the first n places of a list that isn't short stand for a label of each vertex
@@ -136,7 +129,9 @@ module _ (file : List ℕ) (source : ℕ) (distances parents : List ℕ) (lent :
     -- a result that isn't found wrong is right
     found-right : resultWrong g source labels ≡ false → RightLists file source distances parents
     unfolding labelsIn labelsOf
-    found-right = passes-right source-ground labels (all-labels distances (input-parts .distances-there)) (all-labels parents (input-parts .parents-there))
+    found-right =
+        passes-right source-ground labels (all-labels distances (rw (← vertices) (early .long .distances-there)))
+        (all-labels parents (rw (← vertices) (early .long .parents-there)))
 
     -- one that isn't right is found wrong
     found-wrong : (RightLists file source distances parents → ⊥) → resultWrong g source labels ≡ true
