@@ -5,7 +5,7 @@ use Prim.Native.Nat.{ℕ, zero, suc, _+_, _-_, _≤_, _<_}
 use native.Mathlib.Nat.{le-refl, le-of-suc-le-suc, not-suc-le-zero}
 use native.Mathlib.Numerals.{add-one}
 use native.Mathlib.Omega.{arith}
-use lib.ListN.{length, getD, set, take, drop, replicate, length-append, length-replicate, getD-replicate, List·getD-append}
+use lib.ListN.{length, getD, set, take, drop, replicate, length-append, length-drop, length-replicate, getD-replicate, List·getD-append}
 use lib.Seq.{take-all, length-take-le, drop-append-add, drop-at, drop-drop, drop-length}
 use Rattle.lists.specs.Lists.{overlay}
 
@@ -65,6 +65,11 @@ overlay-zeros m old i h =
 pub overlay-long : (new old : List ℕ) → length new ≤ length (overlay new old)
 unfolding overlay
 overlay-long new old = omega (arith, length-append new (drop (length new) old))
+
+-- and as many places as before, if what was written has room
+pub length-overlay : (new old : List ℕ) → length new ≤ length old → length (overlay new old) ≡ length old
+unfolding overlay
+length-overlay new old h = omega (arith, length-append new (drop (length new) old), length-drop (length new) old)
 
 -- a list that is written whole
 pub overlay-whole : (l : List ℕ) (x : ℕ) → overlay (replicate (length l) x) l ≡ replicate (length l) x

@@ -1,11 +1,12 @@
 -- Facts about what is left of a list after its first places, where the toolchain's libraries have them the other way round; and what is read
 -- at a place.
-use mathlib.Core.Path.{_≡_, refl, ap}
+use mathlib.Core.Path.{_≡_, refl, sym, ap, _∙_}
 use mathlib.Core.List.{List, [], _∷_, nil≢cons, cons≢nil, head-eq-of-cons-eq, tail-eq-of-cons-eq}
 use mathlib.Core.Option.{Option, none, some, Option·none-ne-some}
-use Prim.Native.Nat.{ℕ, zero, suc, _≤_, _<_, zero-le, suc-le-suc}
+use Prim.Native.Nat.{ℕ, zero, suc, _+_, _≤_, _<_, zero-le, suc-le-suc}
 use native.Mathlib.Omega.{arith}
 use lib.ListN.{length, getD, take, drop, replicate}
+use lib.Seq.{getD-take, getD-drop}
 
 -- what stands at place i: the rest of the list from there on begins with x
 pub record Next (list : List ℕ) (i x : ℕ) (rest : List ℕ) : Type 0 where
@@ -50,3 +51,7 @@ pub getD-any : {A : Type 0} (l : List A) (i : ℕ) (d e : A) → i < length l �
 getD-any [] i d e h = absurd (omega arith)
 getD-any (x ∷ l) zero d e h = refl
 getD-any (x ∷ l) (suc i) d e h = getD-any l i d e (omega arith)
+
+-- what stands in a part of a list's first places stands in the list's part
+pub part-at : {A : Type 0} (a k : ℕ) (l : List A) (j : ℕ) (d : A) → a + j < k → getD (drop a (take k l)) j d ≡ getD (drop a l) j d
+part-at a k l j d h = getD-drop a (take k l) j d ∙ getD-take k l (a + j) d h ∙ sym (getD-drop a l j d)

@@ -1,10 +1,11 @@
--- Lists: one laid over another, consecutive numbers, running sums, sums of a weight, values counted as 0 or 1, chains, and tests that compute. No vertex, edge, byte or node here.
+-- Lists: one laid over another, consecutive numbers, running sums, sums of a weight, values counted as 0 or 1, chains, pieces of a list, and tests
+-- that compute. No vertex, edge, byte or node here.
 use Prim.Native.Nat.{ℕ, zero, suc, _+_}
 use mathlib.Core.Bool.{Bool, false, not, _||_}
 use mathlib.Core.List.{List, [], _∷_, _++_}
 use mathlib.Core.Option.{Option, none, some}
 use lib.Dec.{leb, ltb, eqb}
-use lib.ListN.{length, drop}
+use lib.ListN.{length, take, drop}
 
 -- `new`, and then the rest of `old`: "Places past the need keep their contents."
 unfoldable pub overlay : List ℕ → List ℕ → List ℕ
@@ -65,3 +66,13 @@ unfoldable pub chainFrom : (ℕ → ℕ) → ℕ → ℕ → List ℕ
 chainFrom next zero x = []
 chainFrom next (suc steps) zero = []
 chainFrom next (suc steps) (suc x) = suc x ∷ chainFrom next steps (next (suc x))
+
+-- a list cut into pieces of `size` places, the last one with what is left; at most `count` pieces
+unfoldable pub chunksIn : {A : Type 0} → ℕ → ℕ → List A → List (List A)
+chunksIn size zero l = []
+chunksIn size (suc count) [] = []
+chunksIn size (suc count) (x ∷ l) = take size (x ∷ l) ∷ chunksIn size count (drop size (x ∷ l))
+
+-- all pieces: there are no more of them than places
+unfoldable pub chunks : {A : Type 0} → ℕ → List A → List (List A)
+chunks size l = chunksIn size (length l) l

@@ -7,6 +7,7 @@ pub mod Walks
 pub mod LabelFacts
 pub mod WordFacts
 pub mod Certificate
+pub mod RightFacts
 pub mod Workers
 pub mod MovingLabels
 pub mod Moving

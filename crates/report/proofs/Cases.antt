@@ -8,6 +8,7 @@ use Rattle.graph.specs.File.{word, wordsAt, vertexCount, edgeCount, headIndex, 
 use Rattle.graph.specs.File.{chain, chains, reached, graphOf}
 use Rattle.graph.specs.Read.{outsideSizes, headerRefusals, scanRefusals, chainRefusals, rowsShort, clearsMarks}
 use Rattle.graph.specs.Encode.{bytesOf}
+use Rattle.text.specs.Text.{decimalIn, decimal, labelText}
 use Rattle.pennant.specs.Pennant.{pennantUnion, pennantFirst, pennantSecond}
 use Rattle.pennant.specs.Bag.{emptyBag, insertPennant, bagInsert, insertFilled, adderSum, adderCarry, addFrom, bagUnion, splitFirst, splitSecond}
 use Rattle.pennant.specs.Bag.{spread, takeFrom, takeRest, takenNumber, isEmpty, atLeastTwo}
@@ -20,7 +21,7 @@ use Rattle.model.specs.Call.{lengthsShort, earlyRefusals, runOf, inputRefusals,
 use Rattle.model.specs.Call.{plays, answerBy, sweepsMarks, lentAfter, outcomeOfSearch}
 use Rattle.model.specs.Words.{wordOf}
 use Rattle.report.specs.Input.{sourceIn, workersIn, eventsIn, scheduleIn, fileIn, sizesRefusals, ownRefusals, programLists}
-use Rattle.report.specs.Text.{decimalIn, decimal, labelText, firstLine, vertexLine, vertexLines}
+use Rattle.report.specs.Lines.{firstLine, vertexLine, vertexLines}
 use Rattle.report.specs.Respond.{searched, lines, response}
 use Rattle.report.specs.Cases.{inputOf, inputA, outputA, inputB, outputB}
 

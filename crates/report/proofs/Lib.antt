@@ -1,7 +1,6 @@
 -- What is claimed of the whole output (OutputFacts, Cases), and what the proofs of single functions go by.
 pub mod OutputFacts
 pub mod Cases
-pub mod DecimalFacts
-pub mod TextFacts
+pub mod LineFacts
 pub mod InputFacts
 pub mod RespondFacts

@@ -5,8 +5,8 @@ use mathlib.Core.List.{List, [], _∷_, _++_, append-nil}
 use Prim.Native.Nat.{ℕ, zero, suc, _+_, _*_, _≤_, _<_}
 use native.Mathlib.Omega.{arith}
 use lib.Dec.{ltb}
-use lib.ListN.{length, getD, take, drop, length-drop}
-use lib.Seq.{length-take-le, getD-take, getD-drop}
+use lib.ListN.{length, take, length-drop}
+use lib.Seq.{length-take-le}
 use borrow.Author.Tests.{ltb-true, ltb-false, le-ltb, ne-eqb}
 use Rattle.numbers.specs.Numbers.{success, badLength, shortList}
 use Rattle.numbers.specs.Refusals.{_gives_, first}
@@ -14,11 +14,12 @@ use Rattle.numbers.proofs.First.{Positive, first-append, first-append-stop}
 use Rattle.lists.specs.Lists.{elem}
 use Rattle.graph.specs.File.{word, vertexCount, edgeCount, fileLength}
 use Rattle.graph.specs.Read.{outsideSizes, headerRefusals}
+use Rattle.graph.proofs.WordRuns.{part-word}
 use Rattle.model.specs.Call.{Lent, Outcome, plays, searchNumber, searchRefusals, inputRefusals, earlyRefusals}
 use Rattle.model.proofs.Calls.{call-refused}
 use Rattle.report.specs.Input.{programEvents, sourceIn, workersIn, eventsIn, scheduleIn, fileIn, programLists, longestInput}
 use Rattle.report.specs.Input.{sizesRefusals, ownRefusals}
-use Rattle.report.specs.Text.{firstLine}
+use Rattle.report.specs.Lines.{firstLine}
 use Rattle.report.specs.Respond.{searched, lines, refusedWith, response}
 use Rattle.report.proofs.InputFacts.{sizes-passed, own-events, own-sizes}
 
@@ -120,17 +121,6 @@ module _ (input : List ℕ) (long : longestInput < length input) where
           search-line input (sym own ∙ e) (ap plays one ∙ length-refused) ∙ ap (λ (x : ℕ). firstLine (refusedWith x)) (one ∙ sym (last-length n m e))
       go (suc k) e =
           own-line input (sym e ∙ own) (λ z. absurd (omega arith)) ∙ ap (λ (x : ℕ). firstLine (refusedWith x)) (sym (last-sizes n m e))
-
--- A list's first bytes.
-
--- what stands in a part of them stands in the list's part
-part-at : (a k : ℕ) (l : List ℕ) (j : ℕ) → a + j < k → getD (drop a (take k l)) j 0 ≡ getD (drop a l) j 0
-part-at a k l j h = getD-drop a (take k l) j 0 ∙ getD-take k l (a + j) 0 h ∙ sym (getD-drop a l j 0)
-
--- so does a word
-part-word : (a k : ℕ) (l : List ℕ) (i : ℕ) → a + (2 * i + 1) < k → word (drop a (take k l)) i ≡ word (drop a l) i
-unfolding word
-part-word a k l i h = rw (part-at a k l (2 * i) (omega arith), part-at a k l (2 * i + 1) h)
 
 -- An input longer than any that can be accepted, and its first k bytes, still longer than any such.
 module _ (input : List ℕ) (k : ℕ) (far : longestInput < k) (there : k ≤ length input) where

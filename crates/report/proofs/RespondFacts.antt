@@ -6,20 +6,21 @@ use Prim.Native.Nat.{ℕ, _+_, _-_, _≤_, _<_}
 use native.Mathlib.Omega.{arith}
 use lib.Dec.{eqb}
 use lib.ListN.{length, take, drop}
-use borrow.Author.Tests.{le-ltb, lt-ltb, ne-eqb, eq-eqb}
+use borrow.Author.Tests.{ne-eqb, eq-eqb}
 use Rattle.numbers.specs.Numbers.{success, unfinished}
 use Rattle.numbers.specs.Refusals.{first}
 use Rattle.lists.specs.Lists.{elem}
-use Rattle.lists.proofs.Overlay.{overlay-long}
 use Rattle.graph.specs.File.{word, vertexCount}
 use Rattle.model.specs.Call.{Lent, Outcome, plays, outcomeOfSearch}
 use Rattle.engine.specs.declared.Answer.{Answer}
 use Rattle.search.specs.Promise.{searchExit}
 use Rattle.report.specs.Input.{sourceIn, workersIn, eventsIn, scheduleIn, fileIn, ownRefusals, programLists}
-use Rattle.report.specs.Text.{firstLine, vertexLines}
-use Rattle.report.specs.Respond.{searched, lines, refusedWith, response, outputPlaces, respondExit, outcomeOfRespond}
-use Rattle.report.specs.Printed.{Printed, Prints}
-use Rattle.report.proofs.TextFacts.{prints-start}
+use Rattle.report.specs.Lines.{firstLine, vertexLines}
+use Rattle.report.specs.Respond.{searched, lines, refusedWith, response, outputPlaces, outcomeOfRespond}
+use Rattle.text.specs.Output.{respondExit}
+use Rattle.text.specs.Printed.{Printed, Prints}
+use Rattle.text.proofs.OutputFacts.{respond-short, respond-printed}
+use Rattle.text.proofs.PrintFacts.{prints-start}
 use Rattle.report.proofs.OutputFacts.{one-line, own-line}
 
 -- The numbers with which the schedule was played.
@@ -75,29 +76,25 @@ module _ (input output : List ℕ) {r : Answer} {after : Lent} (told : searchExi
 -- The whole answer.
 module _ (input output : List ℕ) where
   -- too short an output is left as it is
-  pub respond-short : length output < outputPlaces → (respondExit 0 output ≡ outcomeOfRespond input output) × (0 ≤ length output)
+  pub too-short : length output < outputPlaces → (respondExit 0 output ≡ outcomeOfRespond input output) × (0 ≤ length output)
   unfolding outcomeOfRespond
-  respond-short h = (rw (lt-ltb (length output) outputPlaces h), omega arith)
+  too-short = respond-short outputPlaces (response input) output
 
   module _ {output′ : List ℕ} {count : ℕ} (room : outputPlaces ≤ length output) where
     -- the program's output is printed
-    respond-printed : Printed output (response input) output′ count
-        → (respondExit count output′ ≡ outcomeOfRespond input output) × (count ≤ length output′)
+    printed : Printed output (response input) output′ count → (respondExit count output′ ≡ outcomeOfRespond input output) × (count ≤ length output′)
     unfolding outcomeOfRespond
-    respond-printed p = (
-      rw (le-ltb (length output) outputPlaces room) (λ i. record { count = p .used i; output = p .laid i }),
-      rw (p .laid, p .used) (overlay-long (response input) output),
-    )
+    printed = respond-printed outputPlaces (response input) output room
 
     -- a refusal of the program's own order
     pub respond-refused : {number : ℕ} → number ≡ first (ownRefusals input) → (number ≡ success → ⊥)
         → Prints (firstLine (refusedWith number)) output 0 output′ count
         → (respondExit count output′ ≡ outcomeOfRespond input output) × (count ≤ length output′)
-    respond-refused e h p = respond-printed (rw (own-line input e h) (p output [] (prints-start output)))
+    respond-refused e h p = printed (rw (own-line input e h) (p output [] (prints-start output)))
 
     -- or the search's lines
     pub respond-lines : {number : ℕ} → number ≡ first (ownRefusals input) → number ≡ success
         → Printed output (lines (vertexCount (fileIn input)) (searched input)) output′ count
         → (respondExit count output′ ≡ outcomeOfRespond input output) × (count ≤ length output′)
     unfolding response
-    respond-lines {number} e h p = respond-printed (rw (← e, eq-eqb number success h) p)
+    respond-lines {number} e h p = printed (rw (← e, eq-eqb number success h) p)

@@ -2,15 +2,14 @@
 use mathlib.Core.Bool.{cond}
 use mathlib.Core.List.{List, [], _++_}
 use Prim.Native.Nat.{ℕ, _+_, _*_}
-use lib.Dec.{eqb, ltb}
-use lib.ListN.{length}
+use lib.Dec.{eqb}
 use Rattle.numbers.specs.Numbers.{success}
 use Rattle.numbers.specs.Refusals.{first}
-use Rattle.lists.specs.Lists.{overlay}
+use Rattle.text.specs.Output.{RespondOutcome, respondBy}
 use Rattle.graph.specs.File.{vertexCount}
 use Rattle.model.specs.Call.{Answer, Outcome, plays, outcomeOfSearch}
 use Rattle.report.specs.Input.{programVertices, sourceIn, workersIn, scheduleIn, fileIn, ownRefusals, programLists}
-use Rattle.report.specs.Text.{firstLine, vertexLines}
+use Rattle.report.specs.Lines.{firstLine, vertexLines}
 
 -- "then as above": the search, with the program's lists
 unfoldable pub searched : List ℕ → Outcome
@@ -35,18 +34,6 @@ response input =
 abbrev pub outputPlaces : ℕ
 outputPlaces = 84 + 16 * programVertices
 
--- how many bytes were written, and the output list at exit
-pub record RespondOutcome : Type 0 where
-  pub count : ℕ
-  pub output : List ℕ
-
--- what the call answered, and the list at exit
-abbrev pub respondExit : ℕ → List ℕ → RespondOutcome
-respondExit count output = record { count = count; output = output }
-
 -- the outcome of a call: a list that is too short for some output is left as it was, and nothing counts as written
 unfoldable pub outcomeOfRespond : List ℕ → List ℕ → RespondOutcome
-outcomeOfRespond input output =
-    cond (ltb (length output) outputPlaces)
-    (respondExit 0 output)
-    (respondExit (length (response input)) (overlay (response input) output))
+outcomeOfRespond input output = respondBy outputPlaces (response input) output

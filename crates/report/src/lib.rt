@@ -1,8 +1,8 @@
 // The program's whole work as one function from its input bytes to its output bytes: `respond`, the
 // outside call; it assumes nothing. Reading and writing are the program's.
 mod input;
+mod lines;
 mod program;
-mod text;
 
 pub use program::respond;
 

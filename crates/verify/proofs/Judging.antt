@@ -14,6 +14,7 @@ use Rattle.lists.proofs.Overlay.{part-length}
 use Rattle.graph.specs.Graph.{Graph}
 use Rattle.graph.specs.File.{vertexCount, edgeCount, graphOf}
 use Rattle.graph.specs.Read.{headerRefusals, scanRefusals, chainRefusals, rowsShort}
+use Rattle.graph.specs.Steps.{Sized}
 use Rattle.graph.specs.declared.ReadAnswer.{ReadAnswer}
 use Rattle.graph.proofs.FileLists.{length-graph}
 use Rattle.graph.proofs.WellFormed.{scan-bounded, graph-below, positive-header, positive-scan}
@@ -115,6 +116,18 @@ module _ (file : List ℕ) (source : ℕ) (distances parents : List ℕ) (lent :
     vertices : answer .vertices ≡ vertexCount file
     vertices = early .scanned .sized .vertices
 
+    -- n and m are within their sizes, and the file's length is theirs
+    pub passed-sized : Sized file (vertexCount file) (edgeCount file)
+    passed-sized = rw (← vertices, ← early .scanned .sized .edges) (early .scanned .sized)
+
+    -- there is a distance for each vertex
+    pub passed-distances : vertexCount file ≤ length distances
+    passed-distances = rw (← vertices) (early .long .distances-there)
+
+    -- and a parent
+    pub passed-parents : vertexCount file ≤ length parents
+    passed-parents = rw (← vertices) (early .long .parents-there)
+
     -- the graph's targets and the source are vertices
     source-ground : Ground g source
     source-ground = record {
@@ -130,8 +143,7 @@ module _ (file : List ℕ) (source : ℕ) (distances parents : List ℕ) (lent :
     found-right : resultWrong g source labels ≡ false → RightLists file source distances parents
     unfolding labelsIn labelsOf
     found-right =
-        passes-right source-ground labels (all-labels distances (rw (← vertices) (early .long .distances-there)))
-        (all-labels parents (rw (← vertices) (early .long .parents-there)))
+        passes-right source-ground labels (all-labels distances passed-distances) (all-labels parents passed-parents)
 
     -- one that isn't right is found wrong
     found-wrong : (RightLists file source distances parents → ⊥) → resultWrong g source labels ≡ true

@@ -1,0 +1,81 @@
+-- The definitions computed, on case A: its page, a page with unset labels, every refusal of the page list's, and the columns read back.
+use mathlib.Core.Path.{_≡_, refl}
+use mathlib.Core.List.{List, [], _∷_, _++_, flatten}
+use Prim.Native.Nat.{ℕ}
+use lib.ListN.{replicate}
+use Rattle.numbers.specs.Numbers.{unset}
+use Rattle.numbers.specs.Refusals.{first}
+use Rattle.lists.specs.Lists.{overlay, chainFrom, numbersFrom, sumsFrom, elem, repeats, lacks, reaches, anyOf, chunksIn, chunks}
+use Rattle.graph.specs.BenchFiles.{wordsA}
+use Rattle.graph.specs.Graph.{edges, offsetsOf, targetsOf}
+use Rattle.graph.specs.File.{word, wordsAt, vertexCount, edgeCount, headIndex, target, next, heads, recordTargets, recordNexts}
+use Rattle.graph.specs.File.{chain, chains, reached, graphOf}
+use Rattle.graph.specs.Read.{outsideSizes, headerRefusals, scanRefusals, chainRefusals, rowsShort, clearsMarks}
+use Rattle.graph.specs.Encode.{bytesOf}
+use Rattle.model.specs.Words.{optionOf, labelsOf, labelsIn}
+use Rattle.verify.specs.Certificate.{beyond, anyBeyond, isNot, notBefore, parentWrong, labelWrong, vertexWrong, resultWrong}
+use Rattle.verify.specs.Check.{CheckLent, checkShort, checkEarly, checkInput, checkRefusals, checkNumber, judges, lentAfterCheck, outcomeOfCheck}
+use Rattle.verify.specs.Promise.{lentLists}
+use Rattle.text.specs.Text.{decimalIn, decimal, labelText, rightAligned}
+use Rattle.page.specs.Layout.{headLine, vertexLine, vertexLines, headed, pages, pageText}
+use Rattle.page.specs.Columns.{digitsFrom, numberRead, labelRead, PagesRead, pagesRead, readPages}
+use Rattle.page.specs.Page.{pageShort, pageRefusals, pageNumber, PageOutcome, outcomeOfPage}
+use Rattle.page.specs.Promise.{pageExit}
+
+-- so many blanks
+abbrev pub blanks : ℕ → List ℕ
+blanks count = replicate count 32
+
+-- a vertex's line, by the three characters that stand at the right ends of its columns: `    v       d      p`
+abbrev pub lineA : ℕ → ℕ → ℕ → List ℕ
+lineA v d p = blanks 4 ++ (v ∷ blanks 7) ++ (d ∷ blanks 6) ++ (p ∷ 10 ∷ [])
+
+-- `HOPS page          1`
+abbrev pub headA : List ℕ
+headA = 72 ∷ 79 ∷ 80 ∷ 83 ∷ 32 ∷ 112 ∷ 97 ∷ 103 ∷ 101 ∷ blanks 10 ++ (49 ∷ 10 ∷ [])
+
+-- the page of case A: `0 0 0`, `1 1 0`, `2 1 0`, `3 2 1`
+abbrev pub pageA : List ℕ
+pageA = headA ++ lineA 48 48 48 ++ lineA 49 49 48 ++ lineA 50 49 48 ++ lineA 51 50 49
+
+-- the same survey from device 1: `0 - -`, `1 0 1`, `2 - -`, `3 1 1`
+abbrev pub pageOne : List ℕ
+pageOne = headA ++ lineA 48 45 45 ++ lineA 49 48 49 ++ lineA 50 45 45 ++ lineA 51 49 49
+
+-- rows and marks have six places, filled with 9
+abbrev pub nines : CheckLent
+nines = lentLists (replicate 6 9) (replicate 6 9) (replicate 6 9)
+
+-- the rows of A written, its four marks cleared
+abbrev pub written : CheckLent
+written = lentLists (0 ∷ 2 ∷ 3 ∷ 4 ∷ 4 ∷ 9 ∷ []) (1 ∷ 2 ∷ 3 ∷ 3 ∷ 9 ∷ 9 ∷ []) (0 ∷ 0 ∷ 0 ∷ 0 ∷ 9 ∷ 9 ∷ [])
+
+-- a call with A's file, a source, distances and parents, and a page list of so many places, filled with 7
+unfoldable pub called : ℕ → List ℕ → List ℕ → ℕ → PageOutcome
+called source distances parents room = outcomeOfPage (bytesOf wordsA) source distances parents nines (replicate room 7)
+
+-- A's distances and parents
+abbrev pub distancesA : List ℕ
+distancesA = 0 ∷ 1 ∷ 1 ∷ 2 ∷ []
+
+abbrev pub parentsA : List ℕ
+parentsA = 0 ∷ 0 ∷ 0 ∷ 1 ∷ []
+
+-- all of them: the page at its need, with places behind it, and one place short (20, with rows and marks written); the same survey from device 1; a
+-- wrong result with a page list that is short too (10 comes first); distances one short (20 as well, and nothing is changed); the page read back
+pub page-cases : (called 0 distancesA parentsA 105 ≡ pageExit 0 written pageA)
+    × (called 0 distancesA parentsA 107 ≡ pageExit 0 written (pageA ++ 7 ∷ 7 ∷ []))
+    × (called 0 distancesA parentsA 104 ≡ pageExit 20 written (replicate 104 7))
+    × (called 1 (unset ∷ 0 ∷ unset ∷ 1 ∷ []) (unset ∷ 1 ∷ unset ∷ 1 ∷ []) 105 ≡ pageExit 0 written pageOne)
+    × (called 0 distancesA (0 ∷ 0 ∷ 0 ∷ 0 ∷ []) 104 ≡ pageExit 10 written (replicate 104 7))
+    × (called 0 (0 ∷ 1 ∷ 1 ∷ []) parentsA 104 ≡ pageExit 20 nines (replicate 104 7))
+    × (readPages pageA ≡ record { numbers = 1 ∷ []; vertices = 0 ∷ 1 ∷ 2 ∷ 3 ∷ []; distances = distancesA; parents = parentsA })
+    × (readPages pageOne
+    ≡ record { numbers = 1 ∷ []; vertices = 0 ∷ 1 ∷ 2 ∷ 3 ∷ []; distances = unset ∷ 0 ∷ unset ∷ 1 ∷ []; parents = unset ∷ 1 ∷ unset ∷ 1 ∷ [] })
+unfolding first overlay chainFrom numbersFrom sumsFrom elem repeats lacks reaches anyOf chunksIn chunks flatten edges offsetsOf targetsOf word wordsAt
+    vertexCount edgeCount headIndex target next heads recordTargets recordNexts chain chains reached graphOf outsideSizes headerRefusals scanRefusals
+    chainRefusals rowsShort clearsMarks bytesOf optionOf labelsOf labelsIn beyond anyBeyond isNot notBefore parentWrong labelWrong vertexWrong
+    resultWrong checkShort checkEarly checkInput checkRefusals checkNumber judges lentAfterCheck outcomeOfCheck decimalIn decimal labelText rightAligned
+    headLine vertexLine vertexLines headed pages pageText digitsFrom numberRead labelRead pagesRead readPages pageShort pageRefusals pageNumber
+    outcomeOfPage called
+page-cases = (refl, refl, refl, refl, refl, refl, refl, refl)

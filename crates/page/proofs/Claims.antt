@@ -1,0 +1,58 @@
+-- What the paper says of the pages besides their bytes, from the definitions: which pages there are, how long they are, and what a refusal leaves.
+use mathlib.Core.Path.{_≡_, refl, sym, ap, _∙_}
+use mathlib.Core.Bool.{Bool, cond}
+use mathlib.Core.List.{List, [], _∷_}
+use Prim.Native.Nat.{ℕ, suc, _≤_, _<_}
+use native.Mathlib.Omega.{arith}
+use lib.Dec.{eqb}
+use lib.ListN.{length}
+use borrow.Author.Tests.{ne-eqb}
+use Rattle.numbers.specs.Numbers.{success, badResult, shortList}
+use Rattle.lists.specs.Lists.{overlay, elem, chunks}
+use Rattle.lists.proofs.Chunks.{Cut, chunks-cut}
+use Rattle.graph.specs.File.{vertexCount}
+use Rattle.graph.specs.Read.{clearsMarks}
+use Rattle.verify.specs.Check.{CheckLent, checkNumber, judges, lentAfterCheck, outcomeOfCheck}
+use Rattle.page.specs.Layout.{pageVertices, vertexLines, headed, pages, pageText, pageCount, pageNeed}
+use Rattle.page.specs.Page.{pageNumber, outcomeOfPage}
+use Rattle.page.specs.Promise.{pageExit}
+use Rattle.page.proofs.ReadBack.{length-headed, headed-cut, count-pieces}
+use Rattle.page.proofs.CallFacts.{number-stopped, number-short}
+
+-- Pages.
+
+-- "none is without a device and only the final one may be short": a page has its line one and 50 vertices' lines, the last one 1 to 50
+pub pages-cut : (n : ℕ) (distances parents : List ℕ) → Cut (suc pageVertices) (pages n distances parents)
+unfolding pages
+pages-cut n distances parents = headed-cut 1 (chunks-cut pageVertices (omega arith) (vertexLines n distances parents))
+
+-- how many there are
+pub pages-count : (n : ℕ) (distances parents : List ℕ) → length (pages n distances parents) ≡ pageCount n
+unfolding pages
+pages-count n distances parents = length-headed 1 (chunks pageVertices (vertexLines n distances parents)) ∙ count-pieces n distances parents
+
+-- of the most vertices: "n 4,096 makes 82 pages and 87,738 bytes"
+pub most-pages : (pageCount 4096 ≡ 82) × (pageNeed 4096 ≡ 87738)
+most-pages = (refl, refl)
+
+-- Refusals.
+module _ (file : List ℕ) (source : ℕ) (distances parents : List ℕ) (lent : CheckLent) (bytes : List ℕ) where
+  -- the number
+  abbrev number : ℕ
+  number = pageNumber file source distances parents lent (length bytes)
+
+  -- "No refusal changes a page byte."
+  pub refusal-keeps : (number ≡ success → ⊥) → outcomeOfPage file source distances parents lent bytes .bytes ≡ bytes
+  unfolding outcomeOfPage
+  refusal-keeps h = rw (ne-eqb number success h)
+
+  -- "then 20 for a page list too short, with rows and marks as after 10"
+  pub late-short : checkNumber file source distances parents lent ≡ success → length bytes < pageNeed (vertexCount file)
+      → outcomeOfPage file source distances parents lent bytes ≡ pageExit shortList (lentAfterCheck badResult file lent) bytes
+  unfolding outcomeOfPage outcomeOfCheck lentAfterCheck judges elem
+  late-short z h = rw (number-short file source distances parents lent (length bytes) z h, z)
+
+  -- the checker's own 20, which comes early, changes nothing
+  pub early-short : checkNumber file source distances parents lent ≡ shortList → outcomeOfPage file source distances parents lent bytes ≡ pageExit shortList lent bytes
+  unfolding outcomeOfPage outcomeOfCheck lentAfterCheck judges clearsMarks elem
+  early-short z = rw (number-stopped file source distances parents lent (length bytes) (λ e. omega (arith, z, e)) ∙ z, z)

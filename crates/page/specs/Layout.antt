@@ -1,0 +1,55 @@
+-- The layout of the pages for the folder: every byte of them, by the vertices' distances and parents.
+use mathlib.Core.List.{List, [], _∷_, _++_, map, flatten}
+use Prim.Native.Nat.{ℕ, suc, _+_, _*_, _/_}
+use lib.ListN.{getD}
+use Rattle.lists.specs.Lists.{numbersFrom, chunks}
+use Rattle.text.specs.Text.{space, lineFeed, decimal, labelText, rightAligned}
+
+-- "lines of exactly 20 characters and a line feed": that many bytes
+abbrev pub lineBytes : ℕ
+lineBytes = 21
+
+-- "up to 50 device lines"
+abbrev pub pageVertices : ℕ
+pageVertices = 50
+
+-- `HOPS page `
+abbrev pub title : List ℕ
+title = 72 ∷ 79 ∷ 80 ∷ 83 ∷ 32 ∷ 112 ∷ 97 ∷ 103 ∷ 101 ∷ 32 ∷ []
+
+-- "Line one is `HOPS page ` and the page number, right-aligned in columns 11 to 20."
+unfoldable pub headLine : ℕ → List ℕ
+headLine number = title ++ rightAligned 10 (decimal number) ++ (lineFeed ∷ [])
+
+-- "device in columns 1 to 5, distance in 7 to 13, parent in 15 to 20, right-aligned, `-` for unset, all else blank": columns 6 and 14
+unfoldable pub vertexLine : ℕ → ℕ → ℕ → List ℕ
+vertexLine v distance parent =
+    rightAligned 5 (decimal v)
+    ++ (space ∷ rightAligned 7 (labelText distance))
+    ++ (space ∷ rightAligned 6 (labelText parent))
+    ++ (lineFeed ∷ [])
+
+-- a line for each of the first n vertices, "in device order"
+unfoldable pub vertexLines : ℕ → List ℕ → List ℕ → List (List ℕ)
+vertexLines n distances parents = map (λ (v : ℕ). vertexLine v (getD distances v 0) (getD parents v 0)) (numbersFrom 0 n)
+
+-- each page with its line one in front, the pages counting from `number` on
+unfoldable pub headed : ℕ → List (List (List ℕ)) → List (List (List ℕ))
+headed number [] = []
+headed number (page ∷ rest) = (headLine number ∷ page) ∷ headed (suc number) rest
+
+-- the pages, each a list of lines: "Pages count from 1, none is without a device and only the final one may be short": as `chunks` cuts
+unfoldable pub pages : ℕ → List ℕ → List ℕ → List (List (List ℕ))
+pages n distances parents = headed 1 (chunks pageVertices (vertexLines n distances parents))
+
+-- all lines of all pages, one behind the other: every byte
+unfoldable pub pageText : ℕ → List ℕ → List ℕ → List ℕ
+pageText n distances parents = flatten (flatten (pages n distances parents))
+
+-- how many pages n vertices make: as many as begin with a vertex
+abbrev pub pageCount : ℕ → ℕ
+pageCount n = (n + 49) / 50
+
+-- how many bytes they have
+abbrev pub pageNeed : ℕ → ℕ
+pageNeed n = lineBytes * (n + pageCount n)
