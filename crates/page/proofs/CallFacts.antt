@@ -1,30 +1,28 @@
 -- A whole call's outcome, one fact for each way out, and what is promised besides.
 use mathlib.Core.Path.{_≡_, refl, sym, ap, _∙_}
-use mathlib.Core.Bool.{Bool, true, false, cond}
+use mathlib.Core.Bool.{cond}
 use mathlib.Core.List.{List, [], _∷_, _++_}
 use Prim.Native.Nat.{ℕ, _≤_, _<_}
 use native.Mathlib.Omega.{arith}
-use lib.Dec.{eqb, ltb}
+use lib.Dec.{eqb}
 use lib.ListN.{length, take, drop}
 use lib.Seq.{take-at}
 use borrow.Author.Tests.{lt-ltb, le-ltb, ne-eqb, eq-eqb}
-use Rattle.numbers.specs.Numbers.{success, shortList, badResult}
+use Rattle.numbers.specs.Numbers.{success, shortList}
 use Rattle.numbers.specs.Refusals.{Refusal, _gives_, first}
 use Rattle.numbers.proofs.First.{Positive, first-stop, first-skip, first-append, first-append-stop, first-split}
 use Rattle.lists.specs.Lists.{overlay}
-use Rattle.graph.specs.File.{vertexCount, edgeCount}
+use Rattle.graph.specs.File.{vertexCount}
 use Rattle.graph.specs.Read.{headerRefusals, scanRefusals, chainRefusals}
-use Rattle.graph.specs.Steps.{Sized}
-use Rattle.verify.specs.Check.{CheckLent, CheckOutcome, checkEarly, checkInput, checkRefusals, checkNumber, lentAfterCheck, outcomeOfCheck}
-use Rattle.verify.specs.Promise.{checkExit, Passed, RightLists}
-use Rattle.verify.proofs.Judging.{check-judged, passed-sized, passed-distances, passed-parents}
+use Rattle.verify.specs.Check.{CheckLent, CheckOutcome, checkEarly, checkInput, checkRefusals, checkNumber, outcomeOfCheck}
+use Rattle.verify.specs.Promise.{checkExit}
 use Rattle.text.specs.Printed.{Prints}
 use Rattle.text.proofs.PrintFacts.{prints-start}
 use Rattle.page.specs.Layout.{pageText, pageNeed}
-use Rattle.page.specs.Columns.{readPages, listsOnPages}
+use Rattle.page.specs.Columns.{readPages}
 use Rattle.page.specs.Page.{pageShort, pageRefusals, pageNumber, PageOutcome, outcomeOfPage}
 use Rattle.page.specs.Promise.{pageExit, Filed}
-use Rattle.page.proofs.ReadBack.{right-length, right-read}
+use Rattle.page.proofs.ReadBack.{accepted, accepted-length, accepted-read}
 
 module _ (file : List ℕ) (source : ℕ) (distances parents : List ℕ) (lent : CheckLent) where
   -- the checker's tests
@@ -44,10 +42,6 @@ module _ (file : List ℕ) (source : ℕ) (distances parents : List ℕ) (lent :
   checked-first : checked ≡ first checks
   unfolding checkNumber
   checked-first = refl
-
-  -- a result that passes it
-  pub passed-right : checked ≡ success → Passed file source distances parents lent × RightLists file source distances parents
-  passed-right z = check-judged file source distances parents lent refl .accepted z
 
   -- The call's number, by the page list's length.
   module _ (room : ℕ) where
@@ -133,11 +127,8 @@ module _ (file : List ℕ) (source : ℕ) (distances parents : List ℕ) (lent :
         ≡ pageText (vertexCount file) distances parents
     unfolding overlay
     front z =
-        let p = passed-right z in
         let text : List ℕ = pageText (vertexCount file) distances parents in
-        take-at text (drop (length text) bytes) (pageNeed (vertexCount file))
-        (right-length file source distances parents (passed-sized file source distances parents lent (p .0) .fewVertices)
-        (passed-distances file source distances parents lent (p .0)) (passed-parents file source distances parents lent (p .0)) (p .1))
+        take-at text (drop (length text) bytes) (pageNeed (vertexCount file)) (accepted-length file source distances parents lent z)
 
     -- follows from the outcome
     pub page-filed : {r : ℕ} {after : CheckLent} {written : List ℕ} → pageExit r after written ≡ outcomeOfPage file source distances parents lent bytes
@@ -148,12 +139,11 @@ module _ (file : List ℕ) (source : ℕ) (distances parents : List ℕ) (lent :
         let text : List ℕ = pageText (vertexCount file) distances parents in
         let laid : written ≡ cond (eqb (number (length bytes)) success) (overlay text bytes) bytes = ap (λ (o : PageOutcome). o .bytes) e in
         record {
-          right = λ z. passed-right (number-passed (length bytes) (sym same ∙ z)) .1;
+          right = λ z. accepted file source distances parents lent (number-passed (length bytes) (sym same ∙ z)) .1;
           read-back = λ z.
               let zeroth = sym same ∙ z in
-              let p = passed-right (number-passed (length bytes) zeroth) in
+              let passed = number-passed (length bytes) zeroth in
               ap (λ (l : List ℕ). readPages (take (pageNeed (vertexCount file)) l)) (laid ∙ rw (eq-eqb (number (length bytes)) success zeroth))
-              ∙ ap readPages (front (number-passed (length bytes) zeroth))
-              ∙ right-read file source distances parents (passed-sized file source distances parents lent (p .0) .fewVertices)
-              (passed-distances file source distances parents lent (p .0)) (passed-parents file source distances parents lent (p .0)) (p .1);
+              ∙ ap readPages (front passed)
+              ∙ accepted-read file source distances parents lent passed;
         }

@@ -18,7 +18,7 @@ use Rattle.verify.specs.Check.{CheckLent, checkShort, checkEarly, checkInput, c
 use Rattle.verify.specs.Promise.{lentLists}
 use Rattle.text.specs.Text.{decimalIn, decimal, labelText, rightAligned}
 use Rattle.page.specs.Layout.{headLine, vertexLine, vertexLines, headed, pages, pageText}
-use Rattle.page.specs.Columns.{digitsFrom, numberRead, labelRead, PagesRead, pagesRead, readPages}
+use Rattle.page.specs.Columns.{digitsFrom, numberRead, labelRead, pagesRead, readPages}
 use Rattle.page.specs.Page.{pageShort, pageRefusals, pageNumber, PageOutcome, outcomeOfPage}
 use Rattle.page.specs.Promise.{pageExit}
 

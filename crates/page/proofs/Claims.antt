@@ -1,19 +1,17 @@
 -- What the paper says of the pages besides their bytes, from the definitions: which pages there are, how long they are, and what a refusal leaves.
-use mathlib.Core.Path.{_≡_, refl, sym, ap, _∙_}
-use mathlib.Core.Bool.{Bool, cond}
-use mathlib.Core.List.{List, [], _∷_}
-use Prim.Native.Nat.{ℕ, suc, _≤_, _<_}
+use mathlib.Core.Path.{_≡_, refl, _∙_}
+use mathlib.Core.List.{List}
+use Prim.Native.Nat.{ℕ, suc, _<_}
 use native.Mathlib.Omega.{arith}
-use lib.Dec.{eqb}
 use lib.ListN.{length}
 use borrow.Author.Tests.{ne-eqb}
 use Rattle.numbers.specs.Numbers.{success, badResult, shortList}
-use Rattle.lists.specs.Lists.{overlay, elem, chunks}
+use Rattle.lists.specs.Lists.{elem, chunks}
 use Rattle.lists.proofs.Chunks.{Cut, chunks-cut}
 use Rattle.graph.specs.File.{vertexCount}
 use Rattle.graph.specs.Read.{clearsMarks}
 use Rattle.verify.specs.Check.{CheckLent, checkNumber, judges, lentAfterCheck, outcomeOfCheck}
-use Rattle.page.specs.Layout.{pageVertices, vertexLines, headed, pages, pageText, pageCount, pageNeed}
+use Rattle.page.specs.Layout.{pageVertices, vertexLines, pages, pageCount, pageNeed}
 use Rattle.page.specs.Page.{pageNumber, outcomeOfPage}
 use Rattle.page.specs.Promise.{pageExit}
 use Rattle.page.proofs.ReadBack.{length-headed, headed-cut, count-pieces}

@@ -1,25 +1,21 @@
--- The pages as a whole: how they grow vertex by vertex, as they are printed; their lines, each of 21 bytes; and that they are read back.
+-- The pages as they are printed: they grow vertex by vertex, by the vertex's line and, where a page begins, by the page's line one.
 use mathlib.Core.Bool.{Bool, true, false, cond}
 use mathlib.Core.Path.{_≡_, refl, sym, ap, _∙_}
-use mathlib.Core.List.{List, [], _∷_, _++_, append-assoc, append-nil, map, map-append, map-map, flatten}
-use Prim.Native.Nat.{ℕ, zero, suc, _+_, _-_, _*_, _/_, _%_, _≤_, _<_}
+use mathlib.Core.List.{List, [], _∷_, _++_, append-assoc, append-nil, map, map-append, flatten}
+use Prim.Native.Nat.{ℕ, zero, suc, _+_, _-_, _/_, _%_, _≤_, _<_}
 use native.Mathlib.Nat.{add-zero, zero-add}
-use native.Mathlib.Numerals.{add-one}
 use native.Mathlib.Omega.{arith}
 use lib.Dec.{eqb, ltb}
 use lib.ListN.{length, getD, take, drop, length-append, length-map, length-drop, drop-of-length-le}
-use lib.Seq.{take-all, take-append-le, drop-append-le, take-suc}
+use lib.Seq.{take-all, take-append-le, drop-append-le}
 use borrow.Author.Tests.{eq-eqb, ne-eqb, ltb-true, ltb-false}
-use Rattle.numbers.specs.Numbers.{maxVertices}
 use Rattle.lists.specs.Lists.{numbersFrom, chunksIn, chunks}
 use Rattle.lists.proofs.Tests.{length-range, range-append}
-use Rattle.lists.proofs.Chunks.{flatten-append, Cut, none, last, more, chunks-nil, chunks-first, chunks-more, flatten-chunks, chunks-cut, chunks-flatten, cut-count, Each, each-cut, each-append, length-each}
+use Rattle.lists.proofs.Chunks.{flatten-append, chunks-nil, chunks-first, chunks-more}
 use Rattle.text.specs.Printed.{Prints}
 use Rattle.text.proofs.PrintFacts.{prints-then, prints-same}
-use Rattle.page.specs.Layout.{lineBytes, pageVertices, headLine, vertexLine, vertexLines, headed, pages, pageText, pageCount, pageNeed}
-use Rattle.page.specs.Columns.{numberRead, labelRead, columns, PagesRead, readPages, listsOnPages}
+use Rattle.page.specs.Layout.{headLine, vertexLine, vertexLines, headed, pages, pageText}
 use Rattle.page.specs.Steps.{entryText}
-use Rattle.page.proofs.LineFacts.{length-head, head-read, length-vertex, vertex-read, distance-read, parent-read}
 
 -- Growth.
 

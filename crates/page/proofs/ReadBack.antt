@@ -1,17 +1,17 @@
 -- The pages read back: their columns give the page numbers, the vertices, and the lists. First of any lists whose words fit their columns, then of
--- every result that is right.
-use mathlib.Core.Bool.{Bool, true, false, cond}
+-- every result that is right, so of every one that passes the checker.
+use mathlib.Core.Bool.{Bool, true, false}
 use mathlib.Core.Path.{_≡_, refl, sym, ap, _∙_}
 use mathlib.Core.List.{List, [], _∷_, _++_, map, flatten}
-use mathlib.Core.Option.{Option, none, some}
-use Prim.Native.Nat.{ℕ, zero, suc, _+_, _*_, _≤_, _<_}
+use mathlib.Core.Option.{none, some}
+use Prim.Native.Nat.{ℕ, zero, suc, _+_, _≤_, _<_}
 use native.Mathlib.Nat.{zero-add}
 use native.Mathlib.Omega.{arith}
 use lib.Dec.{eqb}
 use lib.ListN.{length, getD, take, drop, length-append, length-map}
 use lib.Seq.{ext-getD, getD-take, length-take-le}
-use borrow.Author.Tests.{eqb-true, eqb-false}
-use Rattle.numbers.specs.Numbers.{maxVertices, unset}
+use borrow.Author.Tests.{eqb-true}
+use Rattle.numbers.specs.Numbers.{maxVertices, unset, success}
 use Rattle.lists.specs.Lists.{numbersFrom, chunks}
 use Rattle.lists.proofs.Chunks.{Cut, none, last, more, flatten-chunks, chunks-cut, chunks-flatten, cut-count, Each, each-cut, each-append, each-split, length-each}
 use Rattle.lists.proofs.Replaced.{map-at}
@@ -20,9 +20,11 @@ use Rattle.graph.specs.File.{vertexCount}
 use Rattle.graph.proofs.FileLists.{length-graph}
 use Rattle.model.specs.Words.{optionOf, labelsOf, labelsIn}
 use Rattle.model.proofs.RightFacts.{right-below, parent-vertex}
-use Rattle.verify.specs.Promise.{RightLists}
-use Rattle.page.specs.Layout.{lineBytes, pageVertices, headLine, vertexLine, vertexLines, headed, pages, pageText, pageCount, pageNeed}
-use Rattle.page.specs.Columns.{numberRead, labelRead, columns, PagesRead, pagesRead, readPages, listsOnPages}
+use Rattle.verify.specs.Check.{CheckLent, checkNumber}
+use Rattle.verify.specs.Promise.{Passed, RightLists}
+use Rattle.verify.proofs.Judging.{check-judged, passed-sized, passed-distances, passed-parents}
+use Rattle.page.specs.Layout.{lineBytes, headLine, vertexLines, headed, pages, pageText, pageCount, pageNeed}
+use Rattle.page.specs.Columns.{numberRead, labelRead, columns, pagesRead, readPages, listsOnPages}
 use Rattle.page.proofs.LineFacts.{length-head, head-read, length-vertex, vertex-read, distance-read, parent-read}
 use Rattle.page.proofs.PageFacts.{lineOf, length-lines}
 
@@ -208,9 +210,31 @@ module _ (file : List ℕ) (source : ℕ) (distances parents : List ℕ) (few : 
       omega (arith, parent-vertex r v k (label-word parents v up h ∙ e), length-graph file))
 
   -- the pages of a right result have as many bytes as said
-  pub right-length : length (pageText (vertexCount file) distances parents) ≡ pageNeed (vertexCount file)
+  right-length : length (pageText (vertexCount file) distances parents) ≡ pageNeed (vertexCount file)
   right-length = length-pages (vertexCount file) distances parents few far up distances-small parents-small
 
   -- and are read back
-  pub right-read : readPages (pageText (vertexCount file) distances parents) ≡ listsOnPages (vertexCount file) distances parents
+  right-read : readPages (pageText (vertexCount file) distances parents) ≡ listsOnPages (vertexCount file) distances parents
   right-read = pages-read (vertexCount file) distances parents few far up distances-small parents-small
+
+-- Results that pass the checker.
+module _ (file : List ℕ) (source : ℕ) (distances parents : List ℕ) (lent : CheckLent) (z : checkNumber file source distances parents lent ≡ success) where
+  -- the input passes its tests, and the result is right
+  pub accepted : Passed file source distances parents lent × RightLists file source distances parents
+  accepted = check-judged file source distances parents lent refl .accepted z
+
+  -- n is within its size
+  pub accepted-few : vertexCount file ≤ maxVertices
+  accepted-few = passed-sized file source distances parents lent (accepted .0) .fewVertices
+
+  -- their pages have as many bytes as said
+  pub accepted-length : length (pageText (vertexCount file) distances parents) ≡ pageNeed (vertexCount file)
+  accepted-length =
+      right-length file source distances parents accepted-few (passed-distances file source distances parents lent (accepted .0))
+      (passed-parents file source distances parents lent (accepted .0)) (accepted .1)
+
+  -- "reading the columns back gives the lists"
+  pub accepted-read : readPages (pageText (vertexCount file) distances parents) ≡ listsOnPages (vertexCount file) distances parents
+  accepted-read =
+      right-read file source distances parents accepted-few (passed-distances file source distances parents lent (accepted .0))
+      (passed-parents file source distances parents lent (accepted .0)) (accepted .1)

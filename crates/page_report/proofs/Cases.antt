@@ -1,7 +1,7 @@
 -- The page program's cases hold: every byte of the output is the one expected, computed by the very definitions that the contract cites. Cut or
 -- damaged inputs are runs.
 use mathlib.Core.Path.{_≡_, refl}
-use mathlib.Core.List.{List, [], _∷_, flatten}
+use mathlib.Core.List.{[], _∷_, flatten}
 use Rattle.numbers.specs.Refusals.{first}
 use Rattle.lists.specs.Lists.{overlay, chainFrom, numbersFrom, sumsFrom, elem, repeats, lacks, reaches, anyOf, chunksIn, chunks}
 use Rattle.graph.specs.Graph.{edges, offsetsOf, targetsOf}

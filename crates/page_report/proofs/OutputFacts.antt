@@ -1,11 +1,11 @@
 -- The page program's output as a whole: an input longer than any that can be accepted is answered as its first bytes are.
-use mathlib.Core.Path.{_≡_, refl, sym, ap, _∙_}
+use mathlib.Core.Path.{_≡_, refl, sym, _∙_}
 use mathlib.Core.Bool.{Bool, true, false, cond}
 use mathlib.Core.List.{List}
 use Prim.Native.Nat.{ℕ, suc, _+_, _*_, _≤_, _<_}
 use native.Mathlib.Omega.{arith}
-use lib.Dec.{ltb, eqb}
-use lib.ListN.{length, take, drop, length-drop}
+use lib.Dec.{ltb}
+use lib.ListN.{length, take, length-drop}
 use lib.Seq.{length-take-le}
 use borrow.Author.Tests.{ltb-true, ltb-false, le-ltb, ne-eqb}
 use Rattle.numbers.specs.Numbers.{maxVertices, maxEdges, success, badLength, badSize, shortList}
@@ -17,7 +17,7 @@ use Rattle.graph.proofs.WordRuns.{part-word}
 use Rattle.verify.specs.Check.{CheckLent, checkEarly, checkInput, checkRefusals}
 use Rattle.page.specs.Page.{pageRefusals, pageNumber}
 use Rattle.page_report.specs.Input.{sourceIn, countIn, distancesIn, parentsIn, fileIn, ownRefusals, programLists, longestInput}
-use Rattle.page_report.specs.Respond.{outputPlaces, respondRefusals, numberLine, response}
+use Rattle.page_report.specs.Respond.{outputPlaces, numberLine, response}
 use Rattle.page_report.proofs.InputFacts.{own-count, own-fit}
 use Rattle.page_report.proofs.RespondFacts.{number-later, refusal-line, own-line}
 

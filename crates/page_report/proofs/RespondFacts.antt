@@ -1,7 +1,7 @@
 -- The program's output: the line of a refusal, or the pages, by what the call for the pages answered.
 use mathlib.Core.Path.{_≡_, refl, sym, ap, _∙_}
 use mathlib.Core.Bool.{cond}
-use mathlib.Core.List.{List, [], _∷_, _++_}
+use mathlib.Core.List.{List, [], _++_}
 use Prim.Native.Nat.{ℕ, _≤_, _<_}
 use native.Mathlib.Decide.{ℕ-discrete}
 use native.Mathlib.Omega.{arith}
@@ -14,8 +14,6 @@ use Rattle.numbers.proofs.First.{Positive, first-append, first-append-stop}
 use Rattle.lists.specs.Lists.{overlay}
 use Rattle.graph.specs.File.{vertexCount}
 use Rattle.verify.specs.Check.{CheckLent, checkNumber}
-use Rattle.verify.specs.Promise.{lentLists}
-use Rattle.verify.proofs.Judging.{passed-sized, passed-distances, passed-parents}
 use Rattle.text.specs.Output.{respondExit}
 use Rattle.text.specs.Printed.{Printed, Prints}
 use Rattle.text.proofs.OutputFacts.{respond-short, respond-printed}
@@ -23,8 +21,8 @@ use Rattle.text.proofs.PrintFacts.{prints-start}
 use Rattle.page.specs.Layout.{pageText, pageNeed}
 use Rattle.page.specs.Page.{pageNumber, pageRefusals, PageOutcome, outcomeOfPage}
 use Rattle.page.specs.Promise.{pageExit}
-use Rattle.page.proofs.CallFacts.{passed-right, number-passed, number-stopped, number-long}
-use Rattle.page.proofs.ReadBack.{right-length}
+use Rattle.page.proofs.CallFacts.{number-passed, number-stopped, number-long}
+use Rattle.page.proofs.ReadBack.{accepted-few, accepted-length}
 use Rattle.page_report.specs.Input.{sourceIn, distancesIn, parentsIn, fileIn, ownRefusals, programLists}
 use Rattle.page_report.specs.Respond.{outputPlaces, respondRefusals, numberLine, response, outcomeOfRespond}
 
@@ -34,12 +32,8 @@ module _ (file : List ℕ) (source : ℕ) (distances parents : List ℕ) (lent :
   pages-fit : checkNumber file source distances parents lent ≡ success
       → (pageNeed (vertexCount file) ≤ outputPlaces) × (length (pageText (vertexCount file) distances parents) ≡ pageNeed (vertexCount file))
   pages-fit z =
-      let p = passed-right file source distances parents lent z in
-      let few = passed-sized file source distances parents lent (p .0) .fewVertices in (
-        omega (arith, few),
-        right-length file source distances parents few (passed-distances file source distances parents lent (p .0))
-            (passed-parents file source distances parents lent (p .0)) (p .1),
-      )
+      let few = accepted-few file source distances parents lent z in
+      (omega (arith, few), accepted-length file source distances parents lent z)
 
   -- so more room changes nothing
   same-room : (room : ℕ) → outputPlaces ≤ room
@@ -119,9 +113,8 @@ module _ (input output : List ℕ) (passed : first (ownRefusals input) ≡ succe
   -- with 0 n is within its size
   pub vertices-few : r ≡ success → vertexCount (fileIn input) ≤ maxVertices
   vertices-few z =
-      let checked = number-passed (fileIn input) (sourceIn input) (distancesIn input) (parentsIn input) programLists (length output) (sym same-number ∙ z) in
-      let p = passed-right (fileIn input) (sourceIn input) (distancesIn input) (parentsIn input) programLists checked in
-      passed-sized (fileIn input) (sourceIn input) (distancesIn input) (parentsIn input) programLists (p .0) .fewVertices
+      accepted-few (fileIn input) (sourceIn input) (distancesIn input) (parentsIn input) programLists
+      (number-passed (fileIn input) (sourceIn input) (distancesIn input) (parentsIn input) programLists (length output) (sym same-number ∙ z))
 
   -- the output that it leaves
   left : output′ ≡ cond (eqb r success) (overlay (pageText (vertexCount (fileIn input)) (distancesIn input) (parentsIn input)) output) output

@@ -1,4 +1,5 @@
--- The result of every search that answered 0 passes the checker: its input passed the checker's tests, and its result is right.
+-- The result of every search that answered 0 passes the checker: its input passed the checker's tests, and its result is right. So it can be laid out
+-- for paper.
 use mathlib.Core.Path.{_≡_, refl, sym, ap, _∙_, subst}
 use mathlib.Core.List.{List, map}
 use mathlib.Core.Bool.{true, false}
@@ -26,7 +27,9 @@ use Rattle.search.proofs.KeptFacts.{call-keeps, played, success-plays}
 use Rattle.verify.specs.Check.{CheckLent, CheckOutcome, lentAfterCheck, checkNumber, outcomeOfCheck, judges}
 use Rattle.verify.specs.Promise.{RightLists}
 use Rattle.verify.proofs.Judging.{parts-passed, number-right}
-use Rattle.search_checked.specs.Checked.{rowLists, Accepts}
+use Rattle.page.specs.Page.{PageOutcome, outcomeOfPage}
+use Rattle.page.proofs.CallFacts.{number-long}
+use Rattle.search_checked.specs.Checked.{rowLists, Accepts, LaidOut}
 
 -- a list whose first n places stand for n labels has n places
 places-there : (n k : ℕ) (l : List ℕ) → length (map optionOf (take n l)) ≡ k → n ≡ k → n ≤ length l
@@ -123,4 +126,13 @@ module _ (file : List ℕ) (source P : ℕ) (schedule : List ℕ) (lent : call.L
           ap (λ (o : CheckOutcome). o .number) answered ∙ zeroth,
           ap (λ (o : CheckOutcome). o .lent) answered ∙ ap (λ (k : ℕ). lentAfterCheck k file (rowLists after)) zeroth ∙ own-kept,
         );
+  }
+
+  -- and the pages
+  pub search-laid-out : LaidOut file source after
+  unfolding outcomeOfPage
+  search-laid-out = record {
+    any-lists = λ distances parents same other bytes long room answered.
+        ap (λ (o : PageOutcome). o .number) answered
+        ∙ number-long file source distances parents other (length bytes) (number-zero distances parents same other long) room;
   }

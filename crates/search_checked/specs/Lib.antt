@@ -1,2 +1,2 @@
--- What the checker answers to a search's result.
+-- What the checker and the call for pages answer to a search's result.
 pub mod Checked

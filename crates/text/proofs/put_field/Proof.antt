@@ -1,7 +1,7 @@
 -- `text::put_field` meets its contract: the digits that the kit makes are those of the number in decimal; they stand in their columns, and one byte
 -- stands behind them.
 use mathlib.Core.Path.{_≡_, ap, _∙_}
-use mathlib.Core.List.{List, [], _∷_, _++_}
+use mathlib.Core.List.{List, [], _∷_}
 use Prim.Native.Nat.{ℕ}
 use native.Mathlib.Omega.{arith}
 use lib.ListN.{length, take}

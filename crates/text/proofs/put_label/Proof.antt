@@ -1,11 +1,11 @@
 -- `text::put_label` meets its contract: `-` for unset, a number otherwise, in its columns, and one byte behind it.
-use mathlib.Core.Path.{_≡_, sym, ap}
+use mathlib.Core.Path.{sym, ap}
 use mathlib.Core.List.{List, [], _∷_, _++_}
 use Prim.Native.Nat.{ℕ}
 use native.Mathlib.Omega.{arith}
 use lib.ListN.{length}
 use borrow.Author.Needs.{needs}
-use Rattle.text.specs.Text.{dash, decimal, labelText, rightAligned}
+use Rattle.text.specs.Text.{labelText, rightAligned}
 use Rattle.text.proofs.PrintFacts.{prints-then, prints-same}
 use Rattle.text.proofs.TextFacts.{label-unset, label-set}
 use Rattle.text.proofs.put_label.Statement.{statement}

@@ -1,6 +1,6 @@
 -- `page_report::program::page_and_print` meets its contract: the words of the input copied, the call for the pages of the input's parts, and the line of
 -- a refusal where it gives one.
-use mathlib.Core.Path.{_≡_, sym, ap, _∙_}
+use mathlib.Core.Path.{_≡_, sym, ap}
 use mathlib.Core.List.{List}
 use Prim.Native.Nat.{ℕ, _+_, _*_, _-_, _≤_}
 use native.Mathlib.Omega.{arith}
