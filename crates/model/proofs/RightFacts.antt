@@ -20,7 +20,7 @@ use Rattle.model.proofs.LabelFacts.{label-below}
 
 module _ {g : Graph} {source : ℕ} {x : Labels} (r : RightResult g source x) where
   -- some vertex has this distance
-  record At (d : ℕ) : Type 0 where
+  record HasVertex (d : ℕ) : Type 0 where
     vertex : ℕ
     is : distanceOf x vertex ≡ some d
 
@@ -31,7 +31,7 @@ module _ {g : Graph} {source : ℕ} {x : Labels} (r : RightResult g source x) wh
       omega (arith, far .least 0 stay)
 
   -- where some vertex has distance d + 1, another has d
-  one-less : {d : ℕ} → At (suc d) → At d
+  one-less : {d : ℕ} → HasVertex (suc d) → HasVertex d
   one-less {d} a =
       let v = a .vertex in
       let near = r .parent v (label-below x v (r .distances-all) (a .is)) (not-source v d (a .is)) (rw (a .is)) in
@@ -39,7 +39,7 @@ module _ {g : Graph} {source : ℕ} {x : Labels} (r : RightResult g source x) wh
       record { vertex = near .0; is = rw depth at (near .2 .here) }
 
   -- so every smaller distance is some vertex's
-  each-less : (d : ℕ) → At d → (k : ℕ) → k ≤ d → At k
+  each-less : (d : ℕ) → HasVertex d → (k : ℕ) → k ≤ d → HasVertex k
   each-less zero a k h = let same : 0 ≡ k = omega arith in rw same at a
   each-less (suc d) a k h = elim (ℕ-discrete k (suc d)) [ yes same ↦ rw same a | no apart ↦ each-less d (one-less a) k (omega arith) ]
 

@@ -18,7 +18,7 @@ use Rattle.verify.specs.Check.{CheckLent, checkShort, checkEarly, checkInput, c
 use Rattle.verify.specs.Promise.{lentLists}
 use Rattle.text.specs.Text.{decimalIn, decimal, labelText, rightAligned}
 use Rattle.page.specs.Layout.{headLine, vertexLine, vertexLines, headed, pages, pageText}
-use Rattle.page.specs.Columns.{digitsFrom, numberRead, labelRead, pagesRead, readPages}
+use Rattle.page.specs.Columns.{digitsFrom, numberRead, labelRead, linesRead, readPages}
 use Rattle.page.specs.Page.{pageShort, pageRefusals, pageNumber, PageOutcome, outcomeOfPage}
 use Rattle.page.specs.Promise.{pageExit}
 
@@ -76,6 +76,6 @@ unfolding first overlay chainFrom numbersFrom sumsFrom elem repeats lacks reache
     vertexCount edgeCount headIndex target next heads recordTargets recordNexts chain chains reached graphOf outsideSizes headerRefusals scanRefusals
     chainRefusals rowsShort clearsMarks bytesOf optionOf labelsOf labelsIn beyond anyBeyond isNot notBefore parentWrong labelWrong vertexWrong
     resultWrong checkShort checkEarly checkInput checkRefusals checkNumber judges lentAfterCheck outcomeOfCheck decimalIn decimal labelText rightAligned
-    headLine vertexLine vertexLines headed pages pageText digitsFrom numberRead labelRead pagesRead readPages pageShort pageRefusals pageNumber
+    headLine vertexLine vertexLines headed pages pageText digitsFrom numberRead labelRead linesRead readPages pageShort pageRefusals pageNumber
     outcomeOfPage called
 page-cases = (refl, refl, refl, refl, refl, refl, refl, refl)

@@ -24,7 +24,7 @@ use Rattle.verify.specs.Check.{CheckLent, checkNumber}
 use Rattle.verify.specs.Promise.{Passed, RightLists}
 use Rattle.verify.proofs.Judging.{check-judged, passed-sized, passed-distances, passed-parents}
 use Rattle.page.specs.Layout.{lineBytes, headLine, vertexLines, headed, pages, pageText, pageCount, pageNeed}
-use Rattle.page.specs.Columns.{numberRead, labelRead, columns, pagesRead, readPages, listsOnPages}
+use Rattle.page.specs.Columns.{numberRead, labelRead, columns, linesRead, readPages, listsOnPages}
 use Rattle.page.proofs.LineFacts.{length-head, head-read, length-vertex, vertex-read, distance-read, parent-read}
 use Rattle.page.proofs.PageFacts.{lineOf, length-lines}
 
@@ -145,10 +145,10 @@ module _ (n : ℕ) (distances parents : List ℕ) (few : n ≤ maxVertices) (far
 
   -- the pages read back are the lists
   pub pages-read : readPages (pageText n distances parents) ≡ listsOnPages n distances parents
-  unfolding readPages pageText pages pagesRead listsOnPages
+  unfolding readPages pageText pages linesRead listsOnPages
   pages-read =
-      ap (λ (l : List (List ℕ)). pagesRead (chunks 51 l)) (chunks-flatten lineBytes (omega arith) (each-cut lineBytes (omega arith) (flatten (headed 1 pieces)) each-page))
-      ∙ ap pagesRead (chunks-flatten 51 (omega arith) (headed-cut 1 (chunks-cut 50 (omega arith) lines)))
+      ap (λ (l : List (List ℕ)). linesRead (chunks 51 l)) (chunks-flatten lineBytes (omega arith) (each-cut lineBytes (omega arith) (flatten (headed 1 pieces)) each-page))
+      ∙ ap linesRead (chunks-flatten 51 (omega arith) (headed-cut 1 (chunks-cut 50 (omega arith) lines)))
       ∙ (λ i. record {
         numbers = numbers i;
         vertices = column (λ (line : List ℕ). numberRead (columns 1 5 line)) vertices i;

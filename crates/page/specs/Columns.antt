@@ -27,7 +27,7 @@ abbrev pub columns : ℕ → ℕ → List ℕ → List ℕ
 columns a b line = take (suc b - a) (drop (a - 1) line)
 
 -- what stands on the pages: their numbers, and of each vertex line its vertex, distance and parent
-pub record PagesRead : Type 0 where
+pub record PageLists : Type 0 where
   pub numbers : List ℕ
   pub vertices : List ℕ
   pub distances : List ℕ
@@ -35,8 +35,8 @@ pub record PagesRead : Type 0 where
 
 -- what stands on pages, each a list of lines: line one has the page's number in columns 11 to 20; a vertex's line has the vertex in columns 1 to 5,
 -- its distance in 7 to 13, its parent in 15 to 20
-unfoldable pub pagesRead : List (List (List ℕ)) → PagesRead
-pagesRead pages =
+unfoldable pub linesRead : List (List (List ℕ)) → PageLists
+linesRead pages =
     let lines = flatten (map (drop 1) pages) in
     record {
       numbers = map (λ (page : List (List ℕ)). numberRead (columns 11 20 (getD page 0 []))) pages;
@@ -46,11 +46,11 @@ pagesRead pages =
     }
 
 -- the same from the bytes: lines of 21 bytes, pages of 51 lines
-unfoldable pub readPages : List ℕ → PagesRead
-readPages bytes = pagesRead (chunks (suc pageVertices) (chunks lineBytes bytes))
+unfoldable pub readPages : List ℕ → PageLists
+readPages bytes = linesRead (chunks (suc pageVertices) (chunks lineBytes bytes))
 
 -- what pages of these lists say: pages 1, 2, .., vertices 0, 1, .., and the lists' first n places
-unfoldable pub listsOnPages : ℕ → List ℕ → List ℕ → PagesRead
+unfoldable pub listsOnPages : ℕ → List ℕ → List ℕ → PageLists
 listsOnPages n distances parents = record {
   numbers = numbersFrom 1 (pageCount n);
   vertices = numbersFrom 0 n;

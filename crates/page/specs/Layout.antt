@@ -1,6 +1,6 @@
 -- The layout of the pages for the folder: every byte of them, by the vertices' distances and parents.
 use mathlib.Core.List.{List, [], _∷_, _++_, map, flatten}
-use Prim.Native.Nat.{ℕ, suc, _+_, _*_, _/_}
+use Prim.Native.Nat.{ℕ, suc, _+_, _-_, _*_, _/_}
 use lib.ListN.{getD}
 use Rattle.lists.specs.Lists.{numbersFrom, chunks}
 use Rattle.text.specs.Text.{space, lineFeed, decimal, labelText, rightAligned}
@@ -21,7 +21,7 @@ title = 72 ∷ 79 ∷ 80 ∷ 83 ∷ 32 ∷ 112 ∷ 97 ∷ 103 ∷ 101 ∷ 32 ∷
 unfoldable pub headLine : ℕ → List ℕ
 headLine number = title ++ rightAligned 10 (decimal number) ++ (lineFeed ∷ [])
 
--- "device in columns 1 to 5, distance in 7 to 13, parent in 15 to 20, right-aligned, `-` for unset, all else blank": columns 6 and 14
+-- "device in columns 1 to 5, distance in 7 to 13, parent in 15 to 20, right-aligned, `-` for unset, all else blank", so columns 6 and 14 are
 unfoldable pub vertexLine : ℕ → ℕ → ℕ → List ℕ
 vertexLine v distance parent =
     rightAligned 5 (decimal v)
@@ -38,7 +38,8 @@ unfoldable pub headed : ℕ → List (List (List ℕ)) → List (List (List ℕ)
 headed number [] = []
 headed number (page ∷ rest) = (headLine number ∷ page) ∷ headed (suc number) rest
 
--- the pages, each a list of lines: "Pages count from 1, none is without a device and only the final one may be short": as `chunks` cuts
+-- the pages, each a list of lines: "Then come up to 50 device lines"; "Pages count from 1, none is without a device and only the final one may be
+-- short", as `chunks` cuts
 unfoldable pub pages : ℕ → List ℕ → List ℕ → List (List (List ℕ))
 pages n distances parents = headed 1 (chunks pageVertices (vertexLines n distances parents))
 
@@ -46,10 +47,10 @@ pages n distances parents = headed 1 (chunks pageVertices (vertexLines n distanc
 unfoldable pub pageText : ℕ → List ℕ → List ℕ → List ℕ
 pageText n distances parents = flatten (flatten (pages n distances parents))
 
--- how many pages n vertices make: as many as begin with a vertex
+-- how many pages n vertices make: one for every 50 of them that are begun
 abbrev pub pageCount : ℕ → ℕ
-pageCount n = (n + 49) / 50
+pageCount n = (n + (pageVertices - 1)) / pageVertices
 
--- how many bytes they have
+-- how many bytes they have: 21 × (n + the number of pages), since each vertex has a line, and each page one more
 abbrev pub pageNeed : ℕ → ℕ
 pageNeed n = lineBytes * (n + pageCount n)

@@ -149,11 +149,11 @@ module _ (input output : List ℕ) where
 
   module _ {output′ : List ℕ} {count : ℕ} (room : outputPlaces ≤ length output) where
     -- the program's output is printed
-    pub printed : Printed output (response input) output′ count → (respondExit count output′ ≡ outcomeOfRespond input output) × (count ≤ length output′)
+    pub output-printed : Printed output (response input) output′ count → (respondExit count output′ ≡ outcomeOfRespond input output) × (count ≤ length output′)
     unfolding outcomeOfRespond
-    printed = respond-printed outputPlaces (response input) output room
+    output-printed = respond-printed outputPlaces (response input) output room
 
     -- a refusal of the program's own order
     pub own-printed : {number : ℕ} → number ≡ first (ownRefusals input) → (number ≡ success → ⊥) → Prints (numberLine number) output 0 output′ count
         → (respondExit count output′ ≡ outcomeOfRespond input output) × (count ≤ length output′)
-    own-printed e h p = printed (rw (own-line input e h) (p output [] (prints-start output)))
+    own-printed e h p = output-printed (rw (own-line input e h) (p output [] (prints-start output)))

@@ -82,19 +82,19 @@ module _ (input output : List ℕ) where
 
   module _ {output′ : List ℕ} {count : ℕ} (room : outputPlaces ≤ length output) where
     -- the program's output is printed
-    printed : Printed output (response input) output′ count → (respondExit count output′ ≡ outcomeOfRespond input output) × (count ≤ length output′)
+    output-printed : Printed output (response input) output′ count → (respondExit count output′ ≡ outcomeOfRespond input output) × (count ≤ length output′)
     unfolding outcomeOfRespond
-    printed = respond-printed outputPlaces (response input) output room
+    output-printed = respond-printed outputPlaces (response input) output room
 
     -- a refusal of the program's own order
     pub respond-refused : {number : ℕ} → number ≡ first (ownRefusals input) → (number ≡ success → ⊥)
         → Prints (firstLine (refusedWith number)) output 0 output′ count
         → (respondExit count output′ ≡ outcomeOfRespond input output) × (count ≤ length output′)
-    respond-refused e h p = printed (rw (own-line input e h) (p output [] (prints-start output)))
+    respond-refused e h p = output-printed (rw (own-line input e h) (p output [] (prints-start output)))
 
     -- or the search's lines
     pub respond-lines : {number : ℕ} → number ≡ first (ownRefusals input) → number ≡ success
         → Printed output (lines (vertexCount (fileIn input)) (searched input)) output′ count
         → (respondExit count output′ ≡ outcomeOfRespond input output) × (count ≤ length output′)
     unfolding response
-    respond-lines {number} e h p = printed (rw (← e, eq-eqb number success h) p)
+    respond-lines {number} e h p = output-printed (rw (← e, eq-eqb number success h) p)

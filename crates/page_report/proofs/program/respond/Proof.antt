@@ -1,6 +1,6 @@
 -- `page_report::program::respond` meets its contract: an output that is too short, a refusal of the program's own, or what the call for the pages gave.
 use borrow.Author.Needs.{needs}
-use Rattle.page_report.proofs.RespondFacts.{too-short, printed, own-printed}
+use Rattle.page_report.proofs.RespondFacts.{too-short, output-printed, own-printed}
 use Rattle.page_report.proofs.program.respond.Statement.{statement}
 use Rattle.page_report.proofs.program.respond.Tie as tie
 
@@ -40,7 +40,7 @@ returns-3 c =
     let judged = accepted .before in
     let long = judged .before in
     let a = long .before .before .before .args in
-    printed (a .input .now) (a .output .now) (long .if1 .left) (shown .page-and-print .ensures)
+    output-printed (a .input .now) (a .output .now) (long .if1 .left) (shown .page-and-print .ensures)
 
 pub respond-spec : {M : Type 1} → statement M
 respond-spec =
