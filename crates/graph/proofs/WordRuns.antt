@@ -1,4 +1,4 @@
--- Facts about the words of a file: a run of words taken one at a time, as a list and place by place, and the words of a list's first bytes.
+-- Facts about the words of a file: a run of words taken one at a time, as a list and place by place, the words of a list's first bytes, and n.
 use mathlib.Core.Path.{_≡_, refl, sym, ap, _∙_}
 use mathlib.Core.Bool.{true, false}
 use mathlib.Core.List.{List}
@@ -9,7 +9,7 @@ use lib.ListN.{length, getD, take, drop}
 use borrow.Author.Tests.{le-leb, lt-leb}
 use Rattle.lists.specs.Lists.{reaches}
 use Rattle.lists.proofs.Parts.{part-at}
-use Rattle.graph.specs.File.{word, wordsAt}
+use Rattle.graph.specs.File.{word, wordsAt, vertexCount}
 
 -- how many are left after one of them is taken
 left-suc : (count i : ℕ) → i < count → count - i ≡ suc (count - (i + 1))
@@ -56,3 +56,8 @@ word-run file place (suc count) (suc i) h =
 pub part-word : (a k : ℕ) (l : List ℕ) (i : ℕ) → a + (2 * i + 1) < k → word (drop a (take k l)) i ≡ word (drop a l) i
 unfolding word
 part-word a k l i h = rw (part-at a k l (2 * i) 0 (omega arith), part-at a k l (2 * i + 1) 0 h)
+
+-- the first word of what is the file is n
+pub count-as : {file other : List ℕ} {n : ℕ} → file ≡ other → n ≡ word file 0 → n ≡ vertexCount other
+unfolding vertexCount
+count-as f e = rw (← f) e

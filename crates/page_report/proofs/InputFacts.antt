@@ -11,7 +11,7 @@ use Rattle.numbers.specs.Numbers.{maxVertices, success, badLength, shortList}
 use Rattle.numbers.specs.Refusals.{_gives_, first}
 use Rattle.numbers.proofs.First.{first-passed}
 use Rattle.lists.specs.Lists.{overlay}
-use Rattle.graph.specs.File.{word, wordsAt, vertexCount}
+use Rattle.graph.specs.File.{word, wordsAt}
 use Rattle.graph.proofs.WordRuns.{length-words}
 use Rattle.page_report.specs.Input.{countIn, distancesIn, parentsIn, fileIn, ownRefusals}
 
@@ -89,8 +89,3 @@ module _ (input : List ℕ) {count : ℕ} (told : count ≡ word input 1) where
   pub parents-as : {parents : List ℕ} → parents ≡ wordsAt input (2 + count) 1 count → parents ≡ parentsIn input
   unfolding parentsIn countIn
   parents-as e = rw (← told) e
-
--- the file's first word is n
-pub count-as : (input : List ℕ) {n : ℕ} {file : List ℕ} → file ≡ fileIn input → n ≡ word file 0 → n ≡ vertexCount (fileIn input)
-unfolding vertexCount
-count-as input f e = rw (← f) e

@@ -113,8 +113,3 @@ module _ (input : List ℕ) where
   pub file-as : {events : ℕ} {file : List ℕ} → events ≡ word input 2 → file ≡ drop (6 + events) input → file ≡ fileIn input
   unfolding fileIn eventsIn
   file-as e f = rw (← e) f
-
-  -- its first word is n
-  pub count-as : {n : ℕ} {file : List ℕ} → file ≡ fileIn input → n ≡ word file 0 → n ≡ vertexCount (fileIn input)
-  unfolding vertexCount
-  count-as f e = rw (← f) e

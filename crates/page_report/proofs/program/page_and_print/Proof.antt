@@ -9,9 +9,10 @@ use lib.Seq.{length-take-le}
 use borrow.Author.Needs.{needs}
 use borrow.Rule.Slice.PartAt.{part-to-end}
 use Rattle.numbers.specs.Numbers.{maxVertices}
+use Rattle.graph.proofs.WordRuns.{count-as}
 use Rattle.page.specs.Page.{PageOutcome, outcomeOfPage}
 use Rattle.page_report.specs.Input.{sourceIn, countIn, distancesIn, parentsIn, fileIn, programLists}
-use Rattle.page_report.proofs.InputFacts.{OwnPassed, own-passed, words-front, file-as, distances-as, parents-as, count-as}
+use Rattle.page_report.proofs.InputFacts.{OwnPassed, own-passed, words-front, file-as, distances-as, parents-as}
 use Rattle.page_report.proofs.RespondFacts.{paged-as, vertices-few, refused-printed, pages-printed}
 use Rattle.page_report.proofs.program.page_and_print.Statement.{statement}
 use Rattle.page_report.proofs.program.page_and_print.Tie as tie
@@ -170,7 +171,7 @@ page-need-requires c κs =
     let paged = test .before .before .before .before .before .before in
     omega (
       arith,
-      count-as (input-of paged) (same-file paged) (c .word3 .ensures .0),
+      count-as (same-file paged) (c .word3 .ensures .0),
       vertices-few (input-of paged) (entry paged .args .output .now) (entry paged .pre .0) (entry paged .pre .1) (told paged (paged .page .ensures .0)) (test .if1 .left),
     )
 
@@ -184,7 +185,7 @@ returns-2 c =
     let test = counted3 .before in
     let paged = test .before .before .before .before .before .before in
     pages-printed (input-of paged) (entry paged .args .output .now) (entry paged .pre .0) (entry paged .pre .1) (told paged (paged .page .ensures .0))
-    (test .if1 .left) (count-as (input-of paged) (same-file paged) (counted3 .word3 .ensures .0)) (c .page-need .ensures)
+    (test .if1 .left) (count-as (same-file paged) (counted3 .word3 .ensures .0)) (c .page-need .ensures)
 
 pub page-and-print-spec : {M : Type 1} → statement M
 page-and-print-spec =

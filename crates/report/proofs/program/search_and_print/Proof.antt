@@ -8,10 +8,11 @@ use lib.ListN.{length, take, drop}
 use borrow.Author.Needs.{needs}
 use borrow.Rule.Slice.PartAt.{part-to-end}
 use Rattle.graph.specs.File.{word}
+use Rattle.graph.proofs.WordRuns.{count-as}
 use Rattle.model.specs.Call.{Outcome, outcomeOfSearch}
 use Rattle.report.specs.Input.{programVertices, eventsIn, fileIn, programLists}
 use Rattle.report.specs.Respond.{searched}
-use Rattle.report.proofs.InputFacts.{SizesPassed, own-passed, file-as, count-as}
+use Rattle.report.proofs.InputFacts.{SizesPassed, own-passed, file-as}
 use Rattle.report.proofs.RespondFacts.{plays-success, plays-unfinished, plays-neither, events-part, searched-as, search-and-print-line, search-and-print-lines}
 use Rattle.report.proofs.program.search_and_print.Statement.{statement}
 use Rattle.report.proofs.program.search_and_print.Tie as tie
@@ -116,7 +117,7 @@ same-file c = file-as (input-of c) (read-at c .word .ensures .0) (part-to-end (i
 
 -- its n is within the program's own size
 few-vertices : (c : tie.After-search) {n : ℕ} → n ≡ word (file-of c) 0 → n ≤ programVertices
-few-vertices c e = omega (arith, count-as (input-of c) (same-file c) e, passes (entry c) .sizes .few-vertices)
+few-vertices c e = omega (arith, count-as (same-file c) e, passes (entry c) .sizes .few-vertices)
 
 -- the search is the program's
 told : (c : tie.After-search) {o : Outcome} → let words = c .before .before .before .before .before .before .before .before .before .before in
@@ -166,7 +167,7 @@ returns c =
     let s = searched-at printed in
     let played = ⊎-elim (λ w. plays-success (w .taken)) (λ w. plays-unfinished (w .0 .left) (w .2 .taken)) (joined .if1 .came) in
     search-and-print-lines (input-of s) (entry s .args .output .now) (told s (s .search .ensures .0))
-    played (count-as (input-of s) (same-file s) (counted .word4 .ensures .0)) (printed .put-first-line .ensures .1) (listed .put-vertex-lines .ensures)
+    played (count-as (same-file s) (counted .word4 .ensures .0)) (printed .put-first-line .ensures .1) (listed .put-vertex-lines .ensures)
 
 same-length-2 : tie.Need-same-length-2
 same-length-2 c = search needs
