@@ -6,13 +6,14 @@ use Prim.Native.Nat.{ℕ, zero, suc, _+_, _*_, _/_, _%_, _≤_, _<_}
 use native.Mathlib.Nat.{not-suc-le-zero, le-of-suc-le-suc, zero-add, suc-add}
 use native.Mathlib.Omega.{arith}
 use lib.Dec.{leb, ltb}
-use lib.ListN.{length, getD, take, drop, replicate, length-append, List·getD-append}
-use lib.Seq.{getD-append-add, take-at}
+use lib.ListN.{length, getD, take, replicate, length-append, List·getD-append}
+use lib.Seq.{getD-append-add}
 use borrow.Author.Tests.{ltb-false, leb-false, lt-leb}
 use Rattle.numbers.specs.Numbers.{badRows, shortList}
 use Rattle.numbers.specs.Refusals.{first, _gives_}
 use Rattle.numbers.proofs.First.{first-passed}
 use Rattle.lists.specs.Lists.{chainFrom, numbersFrom, elem, reaches, overlay}
+use Rattle.lists.proofs.Overlay.{overlay-front}
 use Rattle.lists.proofs.Or.{or-none, none-or}
 use Rattle.lists.proofs.Tests.{reaches-append, reaches-weaken, range-append, repeats-range, elem-lacks}
 use Rattle.graph.specs.Graph.{Graph, offsetsOf, targetsOf, rowsOf}
@@ -326,13 +327,13 @@ written-passed offsets targets bytes e =
 
 pub written-bytes : (offsets targets bytes : List ℕ) → (outcomeOfWrite offsets targets bytes) .number ≡ 0
     → take (fileLength (rowCount offsets) (length targets)) ((outcomeOfWrite offsets targets bytes) .file) ≡ encode (rowsOf offsets targets)
-unfolding outcomeOfWrite writeOutcomeBy overlay
+unfolding outcomeOfWrite writeOutcomeBy
 written-bytes offsets targets bytes e =
     let g = rowsOf offsets targets in
     let ok = written-passed offsets targets bytes e .0 in
     let n = length-rows offsets targets in
     let t = accepted-targets offsets targets ok in
-    rw e (take-at (encode g) (drop (length (encode g)) bytes) (fileLength (rowCount offsets) (length targets)) (encode-length g ∙ rw (n, t)))
+    rw e (overlay-front (encode g) bytes (fileLength (rowCount offsets) (length targets)) (encode-length g ∙ rw (n, t)))
 
 pub written-read : (offsets targets bytes o t k : List ℕ) → (outcomeOfWrite offsets targets bytes) .number ≡ 0
     → length offsets ≤ length o → length targets ≤ length t → length targets ≤ length k

@@ -4,11 +4,10 @@ use mathlib.Core.Path.{_≡_, sym, ap, _∙_}
 use mathlib.Core.List.{List}
 use Prim.Native.Nat.{ℕ, _+_, _≤_}
 use native.Mathlib.Omega.{arith}
-use lib.ListN.{length, take, drop, replicate}
-use lib.Seq.{take-at}
+use lib.ListN.{length, take, replicate}
 use borrow.Author.Tests.{ne-eqb}
 use Rattle.lists.specs.Lists.{overlay}
-use Rattle.lists.proofs.Overlay.{overlay-long}
+use Rattle.lists.proofs.Overlay.{overlay-long, overlay-front}
 use Rattle.graph.specs.Graph.{offsetsOf, targetsOf, rowsOf}
 use Rattle.graph.specs.File.{edgeCount, graphOf}
 use Rattle.graph.specs.Read.{writesRows}
@@ -54,18 +53,14 @@ module _ {file : List ℕ} {n m k : ℕ} {offsets targets marks offsets′ targe
 
     -- the first n + 1 places are the offsets of the graph
     first-starts : take (n + 1) offsets′ ≡ offsetsOf (graphOf file)
-    unfolding overlay
     first-starts =
         let long = length-offsets (graphOf file) in
         ap (λ (l : List ℕ). take (n + 1) l) starts-written
-        ∙ take-at (offsetsOf (graphOf file)) (drop (length (offsetsOf (graphOf file))) offsets) (n + 1) (omega (arith, size-vertices))
+        ∙ overlay-front (offsetsOf (graphOf file)) offsets (n + 1) (omega (arith, size-vertices))
 
     -- the first m places are the targets of the graph
     first-ends : take m targets′ ≡ targetsOf (graphOf file)
-    unfolding overlay
-    first-ends =
-        ap (λ (l : List ℕ). take m l) ends-written
-        ∙ take-at (targetsOf (graphOf file)) (drop (length (targetsOf (graphOf file))) targets) m size-edges
+    first-ends = ap (λ (l : List ℕ). take m l) ends-written ∙ overlay-front (targetsOf (graphOf file)) targets m size-edges
 
     -- so these places hold the rows of the file's graph
     pub rows-graph : rowsOf (take (n + 1) offsets′) (take m targets′) ≡ graphOf file

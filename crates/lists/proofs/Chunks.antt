@@ -15,6 +15,15 @@ unfolding flatten
 flatten-append [] b = refl
 flatten-append (x ∷ a) b = rw (flatten-append a b) (sym (append-assoc x (flatten a) (flatten b)))
 
+-- one list
+pub flatten-one : {A : Type 0} (x : List A) → flatten (x ∷ []) ≡ x
+unfolding flatten
+flatten-one x = append-nil x
+
+-- one more behind others
+pub flatten-more : {A : Type 0} (l : List (List A)) (x : List A) → flatten (l ++ (x ∷ [])) ≡ flatten l ++ x
+flatten-more {A} l x = flatten-append l (x ∷ []) ∙ ap (λ (rest : List A). flatten l ++ rest) (flatten-one x)
+
 -- Pieces.
 
 -- pieces of `size` places each, the last one of at least 1 and at most that many

@@ -6,7 +6,7 @@ use native.Mathlib.Nat.{le-refl, le-of-suc-le-suc, not-suc-le-zero}
 use native.Mathlib.Numerals.{add-one}
 use native.Mathlib.Omega.{arith}
 use lib.ListN.{length, getD, set, take, drop, replicate, length-append, length-drop, length-replicate, getD-replicate, List·getD-append}
-use lib.Seq.{take-all, length-take-le, drop-append-add, drop-at, drop-drop, drop-length}
+use lib.Seq.{take-all, take-at, length-take-le, drop-append-add, drop-at, drop-drop, drop-length}
 use Rattle.lists.specs.Lists.{overlay}
 
 -- no place of a list lies past its end
@@ -65,6 +65,11 @@ overlay-zeros m old i h =
 pub overlay-long : (new old : List ℕ) → length new ≤ length (overlay new old)
 unfolding overlay
 overlay-long new old = omega (arith, length-append new (drop (length new) old))
+
+-- and begins with them
+pub overlay-front : (new old : List ℕ) (n : ℕ) → length new ≡ n → take n (overlay new old) ≡ new
+unfolding overlay
+overlay-front new old n e = take-at new (drop (length new) old) n e
 
 -- and as many places as before, if what was written has room
 pub length-overlay : (new old : List ℕ) → length new ≤ length old → length (overlay new old) ≡ length old

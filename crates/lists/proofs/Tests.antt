@@ -176,6 +176,15 @@ unfolding numbersFrom
 range-append a zero m = rw (add-zero, zero-add)
 range-append a (suc n) m = rw (suc-add, add-suc, ← suc-add a n, range-append (suc a) n m)
 
+-- a function at each number of a range, and at one more
+pub map-range-more : {A : Type 0} (f : ℕ → A) (n : ℕ) → map f (numbersFrom 0 n) ++ (f n ∷ []) ≡ map f (numbersFrom 0 (n + 1))
+unfolding numbersFrom
+map-range-more {A} f n =
+    let last : map f (numbersFrom (0 + n) 1) ≡ f n ∷ [] = rw (zero-add n) in
+    ap (λ (l : List A). map f (numbersFrom 0 n) ++ l) (sym last)
+    ∙ sym (map-append f (numbersFrom 0 n) (numbersFrom (0 + n) 1))
+    ∙ ap (map f) (range-append 0 n 1)
+
 -- what is in a range
 pub elem-range : (x a n : ℕ) → elem x (numbersFrom a n) ≡ true → (a ≤ x) × (x < a + n)
 unfolding numbersFrom elem

@@ -7,11 +7,11 @@ use Prim.Native.Nat.{ℕ, suc, _+_, _<_}
 use native.Mathlib.Numerals.{add-one}
 use native.Mathlib.Omega.{arith}
 use lib.Dec.{eqb}
-use lib.ListN.{length, getD, set, take, drop, length-map}
-use lib.Seq.{take-at}
+use lib.ListN.{length, getD, set, take, length-map}
 use borrow.Author.Tests.{eqb-true, ne-eqb}
 use Rattle.numbers.specs.Numbers.{unset}
 use Rattle.lists.specs.Lists.{overlay}
+use Rattle.lists.proofs.Overlay.{overlay-front}
 use Rattle.lists.proofs.Replaced.{map-set, map-at}
 use Rattle.model.specs.Paths.{distanceOf}
 use Rattle.model.specs.Table.{mark, name}
@@ -78,7 +78,5 @@ words-back (o ∷ l) h = rw (word-back o (h 0), words-back l (λ v. h (suc v)))
 -- laid over the first n places of a list
 pub laid-back : (n : ℕ) (l : List (Option ℕ)) (old : List ℕ) → length l ≡ n → ((v x : ℕ) → getD l v none ≡ some x → x < unset)
     → map optionOf (take n (overlay (map wordOf l) old)) ≡ l
-unfolding overlay
 laid-back n l old e h =
-    let words = map wordOf l in
-    ap (λ (k : List ℕ). map optionOf k) (take-at words (drop (length words) old) n (length-map l wordOf ∙ e)) ∙ words-back l h
+    ap (λ (k : List ℕ). map optionOf k) (overlay-front (map wordOf l) old n (length-map l wordOf ∙ e)) ∙ words-back l h

@@ -13,6 +13,9 @@ pub const MAX_EVENTS: usize = 5000000;
 // An unset distance or parent, in 16-bit lists.
 pub const UNSET: u16 = 65535;
 
+// The same among words made wide.
+pub const WIDE_UNSET: usize = UNSET as usize;
+
 // "Turned down by the input"; 0 is success.
 pub const SUCCESS: usize = 0;
 

@@ -5,23 +5,23 @@ use mathlib.Core.List.{List, [], _∷_, _++_}
 use Prim.Native.Nat.{ℕ, _≤_, _<_}
 use native.Mathlib.Omega.{arith}
 use lib.Dec.{eqb}
-use lib.ListN.{length, take, drop}
-use lib.Seq.{take-at}
+use lib.ListN.{length, take}
 use borrow.Author.Tests.{lt-ltb, le-ltb, ne-eqb, eq-eqb}
 use Rattle.numbers.specs.Numbers.{success, shortList}
 use Rattle.numbers.specs.Refusals.{Refusal, _gives_, first}
 use Rattle.numbers.proofs.First.{Positive, first-stop, first-skip, first-append, first-append-stop, first-split}
 use Rattle.lists.specs.Lists.{overlay}
+use Rattle.lists.proofs.Overlay.{overlay-front}
 use Rattle.graph.specs.File.{vertexCount}
-use Rattle.graph.specs.Read.{headerRefusals, scanRefusals, chainRefusals}
-use Rattle.verify.specs.Check.{CheckLent, CheckOutcome, checkEarly, checkInput, checkRefusals, checkNumber, outcomeOfCheck}
+use Rattle.verify.specs.Check.{CheckLent, CheckOutcome, checkRefusals, checkNumber, outcomeOfCheck}
 use Rattle.verify.specs.Promise.{checkExit}
 use Rattle.text.specs.Printed.{Prints}
 use Rattle.text.proofs.PrintFacts.{prints-start}
 use Rattle.page.specs.Layout.{pageText, pageNeed}
 use Rattle.page.specs.Columns.{readPages}
-use Rattle.page.specs.Page.{pageShort, pageRefusals, pageNumber, PageOutcome, outcomeOfPage}
-use Rattle.page.specs.Promise.{pageExit, Filed}
+use Rattle.page.specs.Page.{pageShort, pageRefusals, pageAnswer, PageOutcome, outcomeOfPage}
+use Rattle.page.specs.Promise.{pageExit, OnPaper}
+use Rattle.verify.proofs.Judging.{checks-positive}
 use Rattle.page.proofs.ReadBack.{accepted, accepted-length, accepted-read}
 
 module _ (file : List ℕ) (source : ℕ) (distances parents : List ℕ) (lent : CheckLent) where
@@ -30,9 +30,8 @@ module _ (file : List ℕ) (source : ℕ) (distances parents : List ℕ) (lent :
   checks = checkRefusals file source distances parents lent
 
   -- they have positive numbers
-  checks-positive : Positive checks
-  unfolding checkRefusals checkInput checkEarly headerRefusals scanRefusals chainRefusals
-  checks-positive = omega arith
+  positive : Positive checks
+  positive = checks-positive file source distances parents lent
 
   -- the checker's number
   abbrev checked : ℕ
@@ -47,7 +46,7 @@ module _ (file : List ℕ) (source : ℕ) (distances parents : List ℕ) (lent :
   module _ (room : ℕ) where
     -- the call's number
     abbrev number : ℕ
-    number = pageNumber file source distances parents lent room
+    number = pageAnswer file source distances parents lent room
 
     -- the test of the page list
     abbrev last : List Refusal
@@ -55,12 +54,12 @@ module _ (file : List ℕ) (source : ℕ) (distances parents : List ℕ) (lent :
 
     -- the checker's tests come first
     number-parts : number ≡ first (checks ++ last)
-    unfolding pageNumber pageRefusals
+    unfolding pageAnswer pageRefusals
     number-parts = refl
 
     -- with 0 the checker's number is 0
     pub number-passed : number ≡ success → checked ≡ success
-    number-passed z = checked-first ∙ first-split checks last checks-positive (sym number-parts ∙ z) .0
+    number-passed z = checked-first ∙ first-split checks last positive (sym number-parts ∙ z) .0
 
     -- a refusal of the checker's is the call's
     pub number-stopped : (checked ≡ success → ⊥) → number ≡ checked
@@ -70,7 +69,7 @@ module _ (file : List ℕ) (source : ℕ) (distances parents : List ℕ) (lent :
 
     -- past the checker the number is that of the page list
     number-last : checked ≡ success → number ≡ first last
-    number-last z = number-parts ∙ first-append checks last checks-positive (sym checked-first ∙ z)
+    number-last z = number-parts ∙ first-append checks last positive (sym checked-first ∙ z)
 
     -- 20
     pub number-short : checked ≡ success → room < pageNeed (vertexCount file) → number ≡ shortList
@@ -125,16 +124,13 @@ module _ (file : List ℕ) (source : ℕ) (distances parents : List ℕ) (lent :
     -- the pages at the front of the page list
     front : checked ≡ success → take (pageNeed (vertexCount file)) (overlay (pageText (vertexCount file) distances parents) bytes)
         ≡ pageText (vertexCount file) distances parents
-    unfolding overlay
-    front z =
-        let text : List ℕ = pageText (vertexCount file) distances parents in
-        take-at text (drop (length text) bytes) (pageNeed (vertexCount file)) (accepted-length file source distances parents lent z)
+    front z = overlay-front (pageText (vertexCount file) distances parents) bytes (pageNeed (vertexCount file)) (accepted-length file source distances parents lent z)
 
     -- follows from the outcome
-    pub page-filed : {r : ℕ} {after : CheckLent} {written : List ℕ} → pageExit r after written ≡ outcomeOfPage file source distances parents lent bytes
-        → Filed file source distances parents r written
+    pub page-on-paper : {r : ℕ} {after : CheckLent} {written : List ℕ} → pageExit r after written ≡ outcomeOfPage file source distances parents lent bytes
+        → OnPaper file source distances parents r written
     unfolding outcomeOfPage
-    page-filed {r} {after} {written} e =
+    page-on-paper {r} {after} {written} e =
         let same : r ≡ number (length bytes) = ap (λ (o : PageOutcome). o .number) e in
         let text : List ℕ = pageText (vertexCount file) distances parents in
         let laid : written ≡ cond (eqb (number (length bytes)) success) (overlay text bytes) bytes = ap (λ (o : PageOutcome). o .bytes) e in

@@ -17,30 +17,11 @@ use Rattle.verify.specs.Certificate.{beyond, anyBeyond, isNot, notBefore, paren
 use Rattle.verify.specs.Check.{CheckLent, checkShort, checkEarly, checkInput, checkRefusals, checkNumber, judges, lentAfterCheck, outcomeOfCheck}
 use Rattle.verify.specs.Promise.{lentLists}
 use Rattle.text.specs.Text.{decimalIn, decimal, labelText, rightAligned}
-use Rattle.page.specs.Layout.{headLine, vertexLine, vertexLines, headed, pages, pageText}
+use Rattle.page.specs.Layout.{headLine, vertexLine, linesByVertex, headed, pages, pageText}
 use Rattle.page.specs.Columns.{digitsFrom, numberRead, labelRead, linesRead, readPages}
-use Rattle.page.specs.Page.{pageShort, pageRefusals, pageNumber, PageOutcome, outcomeOfPage}
+use Rattle.page.specs.Page.{pageShort, pageRefusals, pageAnswer, PageOutcome, outcomeOfPage}
 use Rattle.page.specs.Promise.{pageExit}
-
--- so many blanks
-abbrev pub blanks : ℕ → List ℕ
-blanks count = replicate count 32
-
--- a vertex's line, by the three characters that stand at the right ends of its columns: `    v       d      p`
-abbrev pub lineA : ℕ → ℕ → ℕ → List ℕ
-lineA v d p = blanks 4 ++ (v ∷ blanks 7) ++ (d ∷ blanks 6) ++ (p ∷ 10 ∷ [])
-
--- `HOPS page          1`
-abbrev pub headA : List ℕ
-headA = 72 ∷ 79 ∷ 80 ∷ 83 ∷ 32 ∷ 112 ∷ 97 ∷ 103 ∷ 101 ∷ blanks 10 ++ (49 ∷ 10 ∷ [])
-
--- the page of case A: `0 0 0`, `1 1 0`, `2 1 0`, `3 2 1`
-abbrev pub pageA : List ℕ
-pageA = headA ++ lineA 48 48 48 ++ lineA 49 49 48 ++ lineA 50 49 48 ++ lineA 51 50 49
-
--- the same survey from device 1: `0 - -`, `1 0 1`, `2 - -`, `3 1 1`
-abbrev pub pageOne : List ℕ
-pageOne = headA ++ lineA 48 45 45 ++ lineA 49 48 49 ++ lineA 50 45 45 ++ lineA 51 49 49
+use Rattle.page.specs.Cases.{distancesA, parentsA, pageA, pageOne}
 
 -- rows and marks have six places, filled with 9
 abbrev pub nines : CheckLent
@@ -53,13 +34,6 @@ written = lentLists (0 ∷ 2 ∷ 3 ∷ 4 ∷ 4 ∷ 9 ∷ []) (1 ∷ 2 ∷ 3 ∷ 
 -- a call with A's file, a source, distances and parents, and a page list of so many places, filled with 7
 unfoldable pub called : ℕ → List ℕ → List ℕ → ℕ → PageOutcome
 called source distances parents room = outcomeOfPage (bytesOf wordsA) source distances parents nines (replicate room 7)
-
--- A's distances and parents
-abbrev pub distancesA : List ℕ
-distancesA = 0 ∷ 1 ∷ 1 ∷ 2 ∷ []
-
-abbrev pub parentsA : List ℕ
-parentsA = 0 ∷ 0 ∷ 0 ∷ 1 ∷ []
 
 -- all of them: the page at its need, with places behind it, and one place short (20, with rows and marks written); the same survey from device 1; a
 -- wrong result with a page list that is short too (10 comes first); distances one short (20 as well, and nothing is changed); the page read back
@@ -76,6 +50,6 @@ unfolding first overlay chainFrom numbersFrom sumsFrom elem repeats lacks reache
     vertexCount edgeCount headIndex target next heads recordTargets recordNexts chain chains reached graphOf outsideSizes headerRefusals scanRefusals
     chainRefusals rowsShort clearsMarks bytesOf optionOf labelsOf labelsIn beyond anyBeyond isNot notBefore parentWrong labelWrong vertexWrong
     resultWrong checkShort checkEarly checkInput checkRefusals checkNumber judges lentAfterCheck outcomeOfCheck decimalIn decimal labelText rightAligned
-    headLine vertexLine vertexLines headed pages pageText digitsFrom numberRead labelRead linesRead readPages pageShort pageRefusals pageNumber
+    headLine vertexLine linesByVertex headed pages pageText digitsFrom numberRead labelRead linesRead readPages pageShort pageRefusals pageAnswer
     outcomeOfPage called
 page-cases = (refl, refl, refl, refl, refl, refl, refl, refl)

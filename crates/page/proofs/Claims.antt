@@ -1,35 +1,45 @@
--- What the paper says of the pages besides their bytes, from the definitions: which pages there are, how long they are, and what a refusal leaves.
-use mathlib.Core.Path.{_≡_, refl, _∙_}
-use mathlib.Core.List.{List}
-use Prim.Native.Nat.{ℕ, suc, _<_}
+-- What is said of the pages besides their bytes, from the definitions: which pages there are, how long they are, and what a refusal leaves.
+use mathlib.Core.Path.{_≡_, refl, ap, _∙_}
+use mathlib.Core.List.{List, [], map}
+use Prim.Native.Nat.{ℕ, _<_}
 use native.Mathlib.Omega.{arith}
-use lib.ListN.{length}
+use lib.ListN.{length, getD, drop}
 use borrow.Author.Tests.{ne-eqb}
 use Rattle.numbers.specs.Numbers.{success, badResult, shortList}
-use Rattle.lists.specs.Lists.{elem, chunks}
+use Rattle.lists.specs.Lists.{numbersFrom, elem, chunks}
 use Rattle.lists.proofs.Chunks.{Cut, chunks-cut}
 use Rattle.graph.specs.File.{vertexCount}
 use Rattle.graph.specs.Read.{clearsMarks}
 use Rattle.verify.specs.Check.{CheckLent, checkNumber, judges, lentAfterCheck, outcomeOfCheck}
-use Rattle.page.specs.Layout.{pageVertices, vertexLines, pages, pageCount, pageNeed}
-use Rattle.page.specs.Page.{pageNumber, outcomeOfPage}
+use Rattle.page.specs.Layout.{pageVertices, linesByVertex, pages, pageCount, pageNeed, headLine}
+use Rattle.page.specs.Page.{pageAnswer, outcomeOfPage}
 use Rattle.page.specs.Promise.{pageExit}
-use Rattle.page.proofs.ReadBack.{length-headed, headed-cut, count-pieces}
+use Rattle.page.proofs.ReadBack.{length-headed, headed-heads, headed-others, count-pieces}
 use Rattle.page.proofs.CallFacts.{number-stopped, number-short}
 
 -- Pages.
 
--- "none is without a device and only the final one may be short": a page has its line one and 50 vertices' lines, the last one 1 to 50
-pub pages-cut : (n : ℕ) (distances parents : List ℕ) → Cut (suc pageVertices) (pages n distances parents)
+-- "none is without a device and only the final one may be short": behind its line one a page has 50 vertices' lines, the last page 1 to 50
+pub pages-cut : (n : ℕ) (distances parents : List ℕ) → Cut pageVertices (map (drop 1) (pages n distances parents))
 unfolding pages
-pages-cut n distances parents = headed-cut 1 (chunks-cut pageVertices (omega arith) (vertexLines n distances parents))
+pages-cut n distances parents =
+    let pieces = chunks pageVertices (linesByVertex n distances parents) in
+    rw (headed-others 1 pieces) (chunks-cut pageVertices (omega arith) (linesByVertex n distances parents))
+
+-- "Pages count from 1": their lines one
+pub pages-heads : (n : ℕ) (distances parents : List ℕ)
+    → map (λ (page : List (List ℕ)). getD page 0 []) (pages n distances parents) ≡ map headLine (numbersFrom 1 (pageCount n))
+unfolding pages
+pages-heads n distances parents =
+    headed-heads 1 (chunks pageVertices (linesByVertex n distances parents))
+    ∙ ap (λ (k : ℕ). map headLine (numbersFrom 1 k)) (count-pieces n distances parents)
 
 -- how many there are
 pub pages-count : (n : ℕ) (distances parents : List ℕ) → length (pages n distances parents) ≡ pageCount n
 unfolding pages
-pages-count n distances parents = length-headed 1 (chunks pageVertices (vertexLines n distances parents)) ∙ count-pieces n distances parents
+pages-count n distances parents = length-headed 1 (chunks pageVertices (linesByVertex n distances parents)) ∙ count-pieces n distances parents
 
--- of the most vertices: "n 4,096 makes 82 pages and 87,738 bytes"
+-- 4,096 vertices make 82 pages and 87,738 bytes
 pub most-pages : (pageCount 4096 ≡ 82) × (pageNeed 4096 ≡ 87738)
 most-pages = (refl, refl)
 
@@ -37,7 +47,7 @@ most-pages = (refl, refl)
 module _ (file : List ℕ) (source : ℕ) (distances parents : List ℕ) (lent : CheckLent) (bytes : List ℕ) where
   -- the number
   abbrev number : ℕ
-  number = pageNumber file source distances parents lent (length bytes)
+  number = pageAnswer file source distances parents lent (length bytes)
 
   -- "No refusal changes a page byte."
   pub refusal-keeps : (number ≡ success → ⊥) → outcomeOfPage file source distances parents lent bytes .bytes ≡ bytes

@@ -162,25 +162,25 @@ head-read number h =
 -- A vertex's line.
 module _ (v distance parent : ℕ) (near : v < maxVertices) (far : distance < 65536) (up : parent < 65536) where
   -- columns 1 to 5
-  abbrev one : List ℕ
-  one = rightAligned 5 (decimal v)
+  abbrev vertexColumn : List ℕ
+  vertexColumn = rightAligned 5 (decimal v)
 
   -- columns 7 to 13
-  abbrev two : List ℕ
-  two = rightAligned 7 (labelText distance)
+  abbrev distanceColumn : List ℕ
+  distanceColumn = rightAligned 7 (labelText distance)
 
   -- columns 15 to 20
-  abbrev three : List ℕ
-  three = rightAligned 6 (labelText parent)
+  abbrev parentColumn : List ℕ
+  parentColumn = rightAligned 6 (labelText parent)
 
-  length-one : length one ≡ 5
-  length-one = number-column 5 v (omega arith) (omega arith)
+  length-first : length vertexColumn ≡ 5
+  length-first = number-column 5 v (omega arith) (omega arith)
 
-  length-two : length two ≡ 7
-  length-two = label-column 7 distance (omega arith) far
+  length-second : length distanceColumn ≡ 7
+  length-second = label-column 7 distance (omega arith) far
 
-  length-three : length three ≡ 6
-  length-three = label-column 6 parent (omega arith) up
+  length-third : length parentColumn ≡ 6
+  length-third = label-column 6 parent (omega arith) up
 
   -- it has 21 bytes
   pub length-vertex : length (vertexLine v distance parent) ≡ lineBytes
@@ -188,35 +188,35 @@ module _ (v distance parent : ℕ) (near : v < maxVertices) (far : distance < 65
   length-vertex =
       omega (
         arith,
-        length-append (one ++ (space ∷ two) ++ (space ∷ three)) (lineFeed ∷ []),
-        length-append (one ++ (space ∷ two)) (space ∷ three),
-        length-append one (space ∷ two),
-        length-one,
-        length-two,
-        length-three,
+        length-append (vertexColumn ++ (space ∷ distanceColumn) ++ (space ∷ parentColumn)) (lineFeed ∷ []),
+        length-append (vertexColumn ++ (space ∷ distanceColumn)) (space ∷ parentColumn),
+        length-append vertexColumn (space ∷ distanceColumn),
+        length-first,
+        length-second,
+        length-third,
       )
 
   -- the vertex is read
   pub vertex-read : numberRead (columns 1 5 (vertexLine v distance parent)) ≡ v
   unfolding vertexLine
   vertex-read =
-      let rest : List ℕ = (space ∷ two) ++ (space ∷ three) ++ (lineFeed ∷ []) in
-      ap numberRead (column-at (vertexLine v distance parent) [] one rest (simp append-assoc) refl length-one) ∙ number-read 5 v (omega arith)
+      let rest : List ℕ = (space ∷ distanceColumn) ++ (space ∷ parentColumn) ++ (lineFeed ∷ []) in
+      ap numberRead (column-at (vertexLine v distance parent) [] vertexColumn rest (simp append-assoc) refl length-first) ∙ number-read 5 v (omega arith)
 
   -- its distance is
   pub distance-read : labelRead (columns 7 13 (vertexLine v distance parent)) ≡ distance
   unfolding vertexLine
   distance-read =
-      let front : List ℕ = one ++ (space ∷ []) in
-      let rest : List ℕ = (space ∷ three) ++ (lineFeed ∷ []) in
-      let size : length front ≡ 6 = omega (arith, length-append one (space ∷ []), length-one) in
-      ap labelRead (column-at (vertexLine v distance parent) front two rest (simp append-assoc) size length-two) ∙ label-read 7 distance (omega arith)
+      let front : List ℕ = vertexColumn ++ (space ∷ []) in
+      let rest : List ℕ = (space ∷ parentColumn) ++ (lineFeed ∷ []) in
+      let size : length front ≡ 6 = omega (arith, length-append vertexColumn (space ∷ []), length-first) in
+      ap labelRead (column-at (vertexLine v distance parent) front distanceColumn rest (simp append-assoc) size length-second) ∙ label-read 7 distance (omega arith)
 
   -- and its parent
   pub parent-read : labelRead (columns 15 20 (vertexLine v distance parent)) ≡ parent
   unfolding vertexLine
   parent-read =
-      let front : List ℕ = one ++ (space ∷ two) ++ (space ∷ []) in
+      let front : List ℕ = vertexColumn ++ (space ∷ distanceColumn) ++ (space ∷ []) in
       let size : length front ≡ 14 =
-      omega (arith, length-append (one ++ (space ∷ two)) (space ∷ []), length-append one (space ∷ two), length-one, length-two) in
-      ap labelRead (column-at (vertexLine v distance parent) front three (lineFeed ∷ []) (simp append-assoc) size length-three) ∙ label-read 6 parent (omega arith)
+      omega (arith, length-append (vertexColumn ++ (space ∷ distanceColumn)) (space ∷ []), length-append vertexColumn (space ∷ distanceColumn), length-first, length-second) in
+      ap labelRead (column-at (vertexLine v distance parent) front parentColumn (lineFeed ∷ []) (simp append-assoc) size length-third) ∙ label-read 6 parent (omega arith)

@@ -1,20 +1,20 @@
 -- The pages as they are printed: they grow vertex by vertex, by the vertex's line and, where a page begins, by the page's line one.
 use mathlib.Core.Bool.{Bool, true, false, cond}
 use mathlib.Core.Path.{_≡_, refl, sym, ap, _∙_}
-use mathlib.Core.List.{List, [], _∷_, _++_, append-assoc, append-nil, map, map-append, flatten}
+use mathlib.Core.List.{List, [], _∷_, _++_, append-assoc, append-nil, flatten}
 use Prim.Native.Nat.{ℕ, zero, suc, _+_, _-_, _/_, _%_, _≤_, _<_}
-use native.Mathlib.Nat.{add-zero, zero-add}
+use native.Mathlib.Nat.{add-zero}
 use native.Mathlib.Omega.{arith}
 use lib.Dec.{eqb, ltb}
 use lib.ListN.{length, getD, take, drop, length-append, length-map, length-drop, drop-of-length-le}
 use lib.Seq.{take-all, take-append-le, drop-append-le}
 use borrow.Author.Tests.{eq-eqb, ne-eqb, ltb-true, ltb-false}
 use Rattle.lists.specs.Lists.{numbersFrom, chunksIn, chunks}
-use Rattle.lists.proofs.Tests.{length-range, range-append}
-use Rattle.lists.proofs.Chunks.{flatten-append, chunks-nil, chunks-first, chunks-more}
+use Rattle.lists.proofs.Tests.{length-range, map-range-more}
+use Rattle.lists.proofs.Chunks.{flatten-append, flatten-one, flatten-more, chunks-nil, chunks-first, chunks-more}
 use Rattle.text.specs.Printed.{Prints}
 use Rattle.text.proofs.PrintFacts.{prints-then, prints-same}
-use Rattle.page.specs.Layout.{headLine, vertexLine, vertexLines, headed, pages, pageText}
+use Rattle.page.specs.Layout.{headLine, vertexLine, linesByVertex, headed, pages, pageText}
 use Rattle.page.specs.Steps.{entryText}
 
 -- Growth.
@@ -60,15 +60,6 @@ text-only count number lines a b =
     ∙ (λ i. headLine number ++ (flatten (take-all 50 lines b i) ++ textFrom (suc number) (chunksIn 50 count (drop-of-length-le lines b i))))
     ∙ ap (λ (rest : List (List (List ℕ))). headLine number ++ (flatten lines ++ textFrom (suc number) rest)) (chunks-nil 50 count)
     ∙ ap (λ (l : List ℕ). headLine number ++ l) (append-nil (flatten lines))
-
--- one line
-flatten-one : (line : List ℕ) → flatten (line ∷ []) ≡ line
-unfolding flatten
-flatten-one line = append-nil line
-
--- one more line behind others
-flatten-more : (lines : List (List ℕ)) (line : List ℕ) → flatten (lines ++ (line ∷ [])) ≡ flatten lines ++ line
-flatten-more lines line = flatten-append lines (line ∷ []) ∙ ap (λ (l : List ℕ). flatten lines ++ l) (flatten-one line)
 
 -- four texts, grouped otherwise
 regroup : (a b c d : List ℕ) → a ++ (b ++ (c ++ d)) ≡ (a ++ (b ++ c)) ++ d
@@ -144,29 +135,25 @@ module _ (distances parents : List ℕ) where
   lineOf v = vertexLine v (getD distances v 0) (getD parents v 0)
 
   -- as many lines as vertices
-  pub length-lines : (n : ℕ) → length (vertexLines n distances parents) ≡ n
-  unfolding vertexLines
+  pub length-lines : (n : ℕ) → length (linesByVertex n distances parents) ≡ n
+  unfolding linesByVertex
   length-lines n = length-map (numbersFrom 0 n) lineOf ∙ length-range 0 n
 
   -- one more
-  lines-more : (v : ℕ) → vertexLines v distances parents ++ (lineOf v ∷ []) ≡ vertexLines (v + 1) distances parents
-  unfolding vertexLines numbersFrom
-  lines-more v =
-      let last : map lineOf (numbersFrom (0 + v) 1) ≡ lineOf v ∷ [] = rw (zero-add v) in
-      ap (λ (l : List (List ℕ)). map lineOf (numbersFrom 0 v) ++ l) (sym last)
-      ∙ sym (map-append lineOf (numbersFrom 0 v) (numbersFrom (0 + v) 1))
-      ∙ ap (map lineOf) (range-append 0 v 1)
+  lines-more : (v : ℕ) → linesByVertex v distances parents ++ (lineOf v ∷ []) ≡ linesByVertex (v + 1) distances parents
+  unfolding linesByVertex
+  lines-more v = map-range-more lineOf v
 
   -- the pages of no vertex
   pub pages-none : [] ≡ pageText 0 distances parents
-  unfolding pageText pages headed chunks chunksIn vertexLines numbersFrom flatten
+  unfolding pageText pages headed chunks chunksIn linesByVertex numbersFrom flatten
   pages-none = refl
 
   -- the pages of one vertex more
   pub pages-more : (v : ℕ) → pageText v distances parents ++ entryText v (getD distances v 0) (getD parents v 0) ≡ pageText (v + 1) distances parents
   unfolding pageText pages chunks entryText
   pages-more v =
-      let lines : List (List ℕ) = vertexLines v distances parents in
+      let lines : List (List ℕ) = linesByVertex v distances parents in
       let size = length-lines v in
       let number : v / 50 + 1 ≡ 1 + v / 50 = omega arith in
       ap (λ (k : ℕ). textFrom 1 (chunks 50 lines) ++ (cond (eqb (v % 50) 0) (headLine k) [] ++ lineOf v)) number

@@ -2,7 +2,7 @@
 -- every result that is right, so of every one that passes the checker.
 use mathlib.Core.Bool.{Bool, true, false}
 use mathlib.Core.Path.{_≡_, refl, sym, ap, _∙_}
-use mathlib.Core.List.{List, [], _∷_, _++_, map, flatten}
+use mathlib.Core.List.{List, [], _∷_, map, map-map, flatten}
 use mathlib.Core.Option.{none, some}
 use Prim.Native.Nat.{ℕ, zero, suc, _+_, _≤_, _<_}
 use native.Mathlib.Nat.{zero-add}
@@ -23,7 +23,7 @@ use Rattle.model.proofs.RightFacts.{right-below, parent-vertex}
 use Rattle.verify.specs.Check.{CheckLent, checkNumber}
 use Rattle.verify.specs.Promise.{Passed, RightLists}
 use Rattle.verify.proofs.Judging.{check-judged, passed-sized, passed-distances, passed-parents}
-use Rattle.page.specs.Layout.{lineBytes, headLine, vertexLines, headed, pages, pageText, pageCount, pageNeed}
+use Rattle.page.specs.Layout.{lineBytes, headLine, linesByVertex, headed, pages, pageText, pageCount, pageNeed}
 use Rattle.page.specs.Columns.{numberRead, labelRead, columns, linesRead, readPages, listsOnPages}
 use Rattle.page.proofs.LineFacts.{length-head, head-read, length-vertex, vertex-read, distance-read, parent-read}
 use Rattle.page.proofs.PageFacts.{lineOf, length-lines}
@@ -43,18 +43,25 @@ length-headed-lines number [] = refl
 length-headed-lines number (page ∷ rest) =
     omega (arith, length-append page (flatten (headed (suc number) rest)), length-append page (flatten rest), length-headed-lines (suc number) rest)
 
+-- their lines one
+pub headed-heads : (number : ℕ) (pieces : List (List (List ℕ)))
+    → map (λ (page : List (List ℕ)). getD page 0 []) (headed number pieces) ≡ map headLine (numbersFrom number (length pieces))
+unfolding headed numbersFrom
+headed-heads number [] = refl
+headed-heads number (page ∷ rest) = ap (λ (l : List (List ℕ)). headLine number ∷ l) (headed-heads (suc number) rest)
+
+-- their other lines
+pub headed-others : (number : ℕ) (pieces : List (List (List ℕ))) → map (drop 1) (headed number pieces) ≡ pieces
+unfolding headed
+headed-others number [] = refl
+headed-others number (page ∷ rest) = ap (λ (l : List (List (List ℕ))). page ∷ l) (headed-others (suc number) rest)
+
 -- each has one line more
-pub headed-cut : (number : ℕ) {pieces : List (List (List ℕ))} → Cut 50 pieces → Cut 51 (headed number pieces)
+headed-cut : (number : ℕ) {pieces : List (List (List ℕ))} → Cut 50 pieces → Cut 51 (headed number pieces)
 unfolding headed
 headed-cut number none = none
 headed-cut number (last {piece = piece} a b) = last {piece = headLine number ∷ piece} (omega arith) (omega arith)
 headed-cut number (more {piece = piece} e r) = more {piece = headLine number ∷ piece} (omega arith) (headed-cut (suc number) r)
-
--- their other lines
-headed-rest : (number : ℕ) (pieces : List (List (List ℕ))) → flatten (map (drop 1) (headed number pieces)) ≡ flatten pieces
-unfolding headed flatten
-headed-rest number [] = refl
-headed-rest number (page ∷ rest) = ap (λ (l : List (List ℕ)). page ++ l) (headed-rest (suc number) rest)
 
 -- each line has 21 bytes
 headed-each : (number : ℕ) (pieces : List (List (List ℕ))) → number + length pieces ≤ suc maxVertices → Each lineBytes (flatten pieces)
@@ -67,30 +74,29 @@ headed-each number (page ∷ rest) h e =
       each-append lineBytes page (flatten (headed (suc number) rest)) (both .0) (headed-each (suc number) rest (omega arith) (both .1)),
     )
 
--- their numbers
-headed-numbers : (number : ℕ) (pieces : List (List (List ℕ))) → number + length pieces ≤ suc maxVertices
-    → map (λ (page : List (List ℕ)). numberRead (columns 11 20 (getD page 0 []))) (headed number pieces) ≡ numbersFrom number (length pieces)
-unfolding headed numbersFrom
-headed-numbers number [] h = refl
-headed-numbers number (page ∷ rest) h =
-    λ i. head-read number (omega arith) i ∷ headed-numbers (suc number) rest (omega arith) i
+-- numbers that are read as they are written
+heads-read : (number count : ℕ) → number + count ≤ suc maxVertices
+    → map (λ (line : List ℕ). numberRead (columns 11 20 line)) (map headLine (numbersFrom number count)) ≡ numbersFrom number count
+unfolding numbersFrom
+heads-read number zero h = refl
+heads-read number (suc count) h = λ i. head-read number (omega arith) i ∷ heads-read (suc number) count (omega arith) i
 
 -- The pieces that n vertices' lines make.
 module _ (n : ℕ) (distances parents : List ℕ) where
   -- they hold a line for each vertex
-  length-pieces : length (flatten (chunks 50 (vertexLines n distances parents))) ≡ n
-  length-pieces = ap length (flatten-chunks 50 (omega arith) (vertexLines n distances parents)) ∙ length-lines distances parents n
+  length-pieces : length (flatten (chunks 50 (linesByVertex n distances parents))) ≡ n
+  length-pieces = ap length (flatten-chunks 50 (omega arith) (linesByVertex n distances parents)) ∙ length-lines distances parents n
 
   -- as many as said
-  pub count-pieces : length (chunks 50 (vertexLines n distances parents)) ≡ pageCount n
-  count-pieces = omega (arith, length-pieces, cut-count 50 (omega arith) (chunks-cut 50 (omega arith) (vertexLines n distances parents)))
+  pub count-pieces : length (chunks 50 (linesByVertex n distances parents)) ≡ pageCount n
+  count-pieces = omega (arith, length-pieces, cut-count 50 (omega arith) (chunks-cut 50 (omega arith) (linesByVertex n distances parents)))
 
 -- Lists whose words fit their columns.
 module _ (n : ℕ) (distances parents : List ℕ) (few : n ≤ maxVertices) (far : n ≤ length distances) (up : n ≤ length parents)
     (small-distances : (v : ℕ) → v < n → getD distances v 0 < 65536) (small-parents : (v : ℕ) → v < n → getD parents v 0 < 65536) where
   -- the vertices' lines
   abbrev lines : List (List ℕ)
-  lines = vertexLines n distances parents
+  lines = linesByVertex n distances parents
 
   -- in pieces
   abbrev pieces : List (List (List ℕ))
@@ -106,7 +112,7 @@ module _ (n : ℕ) (distances parents : List ℕ) (few : n ≤ maxVertices) (far
   )
 
   each-line : Each lineBytes lines
-  unfolding vertexLines
+  unfolding linesByVertex
   each-line = each-vertex 0 n (omega arith)
 
   -- as many pages as said
@@ -131,7 +137,7 @@ module _ (n : ℕ) (distances parents : List ℕ) (few : n ≤ maxVertices) (far
 
   -- what is read in a column of each vertex's line
   column-read : (f : List ℕ → ℕ) (l : List ℕ) → length l ≡ n → ((v : ℕ) → v < n → f (lineOf distances parents v) ≡ getD l v 0) → map f lines ≡ l
-  unfolding vertexLines
+  unfolding linesByVertex
   column-read f l size same =
       let shown : length (map f lines) ≡ n = length-map lines f ∙ length-lines distances parents n in
       ext-getD 0 (map f lines) l (shown ∙ sym size) (λ (v : ℕ) (h : v < length (map f lines)). go v (omega (arith, shown)))
@@ -157,10 +163,14 @@ module _ (n : ℕ) (distances parents : List ℕ) (few : n ≤ maxVertices) (far
       })
     where
       numbers : map (λ (page : List (List ℕ)). numberRead (columns 11 20 (getD page 0 []))) (headed 1 pieces) ≡ numbersFrom 1 (pageCount n)
-      numbers = headed-numbers 1 pieces (omega (arith, count-pages)) ∙ ap (numbersFrom 1) count-pages
+      numbers =
+          sym (map-map (λ (line : List ℕ). numberRead (columns 11 20 line)) (λ (page : List (List ℕ)). getD page 0 []) (headed 1 pieces))
+          ∙ ap (map (λ (line : List ℕ). numberRead (columns 11 20 line))) (headed-heads 1 pieces)
+          ∙ heads-read 1 (length pieces) (omega (arith, count-pages))
+          ∙ ap (numbersFrom 1) count-pages
 
       column : (f : List ℕ → ℕ) {l : List ℕ} → map f lines ≡ l → map f (flatten (map (drop 1) (headed 1 pieces))) ≡ l
-      column f e = ap (map f) (headed-rest 1 pieces ∙ flatten-chunks 50 (omega arith) lines) ∙ e
+      column f e = ap (map f) (ap flatten (headed-others 1 pieces) ∙ flatten-chunks 50 (omega arith) lines) ∙ e
 
       vertices : map (λ (line : List ℕ). numberRead (columns 1 5 line)) lines ≡ numbersFrom 0 n
       vertices = column-read (λ (line : List ℕ). numberRead (columns 1 5 line)) (numbersFrom 0 n) (length-range 0 n) (λ v h.

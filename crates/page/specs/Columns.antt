@@ -33,8 +33,7 @@ pub record PageLists : Type 0 where
   pub distances : List ℕ
   pub parents : List ℕ
 
--- what stands on pages, each a list of lines: line one has the page's number in columns 11 to 20; a vertex's line has the vertex in columns 1 to 5,
--- its distance in 7 to 13, its parent in 15 to 20
+-- what stands in the columns of pages, each a list of lines: line one, "columns 11 to 20"; then "1 to 5", "7 to 13", "15 to 20"
 unfoldable pub linesRead : List (List (List ℕ)) → PageLists
 linesRead pages =
     let lines = flatten (map (drop 1) pages) in
@@ -45,11 +44,11 @@ linesRead pages =
       parents = map (λ (line : List ℕ). labelRead (columns 15 20 line)) lines;
     }
 
--- the same from the bytes: lines of 21 bytes, pages of 51 lines
+-- "reading the columns back": the same from the bytes, by lines of 21 bytes and pages of 51 lines
 unfoldable pub readPages : List ℕ → PageLists
 readPages bytes = linesRead (chunks (suc pageVertices) (chunks lineBytes bytes))
 
--- what pages of these lists say: pages 1, 2, .., vertices 0, 1, .., and the lists' first n places
+-- ".. gives the lists": pages 1, 2, .., vertices 0, 1, .., and the first n places of distances and parents
 unfoldable pub listsOnPages : ℕ → List ℕ → List ℕ → PageLists
 listsOnPages n distances parents = record {
   numbers = numbersFrom 1 (pageCount n);

@@ -30,18 +30,17 @@ vertexLine v distance parent =
     ++ (lineFeed ∷ [])
 
 -- a line for each of the first n vertices, "in device order"
-unfoldable pub vertexLines : ℕ → List ℕ → List ℕ → List (List ℕ)
-vertexLines n distances parents = map (λ (v : ℕ). vertexLine v (getD distances v 0) (getD parents v 0)) (numbersFrom 0 n)
+unfoldable pub linesByVertex : ℕ → List ℕ → List ℕ → List (List ℕ)
+linesByVertex n distances parents = map (λ (v : ℕ). vertexLine v (getD distances v 0) (getD parents v 0)) (numbersFrom 0 n)
 
 -- each page with its line one in front, the pages counting from `number` on
 unfoldable pub headed : ℕ → List (List (List ℕ)) → List (List (List ℕ))
 headed number [] = []
 headed number (page ∷ rest) = (headLine number ∷ page) ∷ headed (suc number) rest
 
--- the pages, each a list of lines: "Then come up to 50 device lines"; "Pages count from 1, none is without a device and only the final one may be
--- short", as `chunks` cuts
+-- "Then come up to 50 device lines"; "Pages count from 1, none is without a device and only the final one may be short", as `chunks` cuts
 unfoldable pub pages : ℕ → List ℕ → List ℕ → List (List (List ℕ))
-pages n distances parents = headed 1 (chunks pageVertices (vertexLines n distances parents))
+pages n distances parents = headed 1 (chunks pageVertices (linesByVertex n distances parents))
 
 -- all lines of all pages, one behind the other: every byte
 unfoldable pub pageText : ℕ → List ℕ → List ℕ → List ℕ
@@ -51,6 +50,6 @@ pageText n distances parents = flatten (flatten (pages n distances parents))
 abbrev pub pageCount : ℕ → ℕ
 pageCount n = (n + (pageVertices - 1)) / pageVertices
 
--- how many bytes they have: 21 × (n + the number of pages), since each vertex has a line, and each page one more
+-- how many bytes they have: each vertex has a line, and each page one more
 abbrev pub pageNeed : ℕ → ℕ
 pageNeed n = lineBytes * (n + pageCount n)

@@ -4,3 +4,4 @@ pub mod Columns
 pub mod Page
 pub mod Promise
 pub mod Steps
+pub mod Cases

@@ -22,9 +22,9 @@ pageRefusals file source distances parents lent room =
     checkRefusals file source distances parents lent
     ++ (pageShort file room gives shortList ∷ [])
 
--- the call's number
-unfoldable pub pageNumber : List ℕ → ℕ → List ℕ → List ℕ → CheckLent → ℕ → ℕ
-pageNumber file source distances parents lent room = first (pageRefusals file source distances parents lent room)
+-- the call's answer: "the number alone"
+unfoldable pub pageAnswer : List ℕ → ℕ → List ℕ → List ℕ → CheckLent → ℕ → ℕ
+pageAnswer file source distances parents lent room = first (pageRefusals file source distances parents lent room)
 
 -- what a call answers, and the lists at exit
 pub record PageOutcome : Type 0 where
@@ -32,11 +32,10 @@ pub record PageOutcome : Type 0 where
   pub lent : CheckLent
   pub bytes : List ℕ
 
--- the outcome of a call. Rows and marks are as the checker leaves them, so with the late 20 "as after 10". "No refusal changes a page byte"; with 0
--- the pages stand at the front of the page list, and "places past the need keep their contents"
+-- the outcome: rows and marks as the checker leaves them, so with the late 20 "as after 10"; "No refusal changes a page byte"
 unfoldable pub outcomeOfPage : List ℕ → ℕ → List ℕ → List ℕ → CheckLent → List ℕ → PageOutcome
 outcomeOfPage file source distances parents lent bytes =
-    let number = pageNumber file source distances parents lent (length bytes) in
+    let number = pageAnswer file source distances parents lent (length bytes) in
     record {
       number = number;
       lent = outcomeOfCheck file source distances parents lent .lent;

@@ -16,7 +16,7 @@ abbrev pub pageExit : ℕ → CheckLent → List ℕ → PageOutcome
 pageExit number lent bytes = record { number = number; lent = lent; bytes = bytes }
 
 -- a call that answered this number and left the page list so
-pub record Filed (file : List ℕ) (source : ℕ) (distances parents : List ℕ) (number : ℕ) (bytes : List ℕ) : Type 0 where
+pub record OnPaper (file : List ℕ) (source : ℕ) (distances parents : List ℕ) (number : ℕ) (bytes : List ℕ) : Type 0 where
   -- "For a finished result": with 0 the distances and parents are right, by paths
   pub right : number ≡ success → RightLists file source distances parents
   -- "reading the columns back gives the lists"

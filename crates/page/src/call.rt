@@ -2,7 +2,7 @@
 ghost use mathlib.Core.Path.{_≡_};
 ghost use Rattle.verify.specs.Promise.{lentLists};
 ghost use Rattle.page.specs.Page.{outcomeOfPage};
-ghost use Rattle.page.specs.Promise.{pageExit, Filed};
+ghost use Rattle.page.specs.Promise.{pageExit, OnPaper};
 use crate::layout::page_need;
 use crate::layout::put_pages;
 use graph::words::word;
@@ -26,7 +26,7 @@ pub fn page(
         (lentLists (now (offsets .entry)) (now (targets .entry)) (now (marks .entry)))
         (now (bytes .entry))
         ⌝ }
-    ensures { λ r. ⌜ Filed (now (file .entry)) source (now (distances .entry)) (now (parents .entry)) r (now (bytes .exit)) ⌝ }
+    ensures { λ r. ⌜ OnPaper (now (file .entry)) source (now (distances .entry)) (now (parents .entry)) r (now (bytes .exit)) ⌝ }
 {
     let checked = check(file, source, distances, parents, offsets, targets, marks);
     if checked != numbers::SUCCESS {

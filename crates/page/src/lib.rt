@@ -1,9 +1,10 @@
 // A page for the folder: the distances and parents of a finished result, laid out in lines for paper.
 // `page` is the outside call; it assumes nothing.
 mod call;
-pub mod layout;
+mod layout;
 
 pub use call::page;
+pub use layout::page_need;
 
 // "lines of exactly 20 characters and a line feed"
 pub const LINE_BYTES: usize = 21;

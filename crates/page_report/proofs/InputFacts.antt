@@ -5,12 +5,12 @@ use Prim.Native.Nat.{ℕ, _+_, _*_, _≤_, _<_}
 use native.Mathlib.Omega.{arith}
 use lib.Dec.{ltb}
 use lib.ListN.{length, take, drop, length-drop}
-use lib.Seq.{take-at}
 use borrow.Author.Tests.{ltb-false, lt-ltb, le-ltb}
 use Rattle.numbers.specs.Numbers.{maxVertices, success, badLength, shortList}
 use Rattle.numbers.specs.Refusals.{_gives_, first}
 use Rattle.numbers.proofs.First.{first-passed}
 use Rattle.lists.specs.Lists.{overlay}
+use Rattle.lists.proofs.Overlay.{overlay-front}
 use Rattle.graph.specs.File.{word, wordsAt}
 use Rattle.graph.proofs.WordRuns.{length-words}
 use Rattle.page_report.specs.Input.{countIn, distancesIn, parentsIn, fileIn, ownRefusals}
@@ -68,10 +68,7 @@ module _ (input : List ℕ) where
 -- words laid over the front of a list are its first places
 pub words-front : (input : List ℕ) (place count : ℕ) (old : List ℕ) {list : List ℕ} → list ≡ overlay (wordsAt input place 1 count) old
     → take count list ≡ wordsAt input place 1 count
-unfolding overlay
-words-front input place count old e =
-    let words : List ℕ = wordsAt input place 1 count in
-    ap (take count) e ∙ take-at words (drop (length words) old) count (length-words input place 1 count)
+words-front input place count old e = ap (take count) e ∙ overlay-front (wordsAt input place 1 count) old count (length-words input place 1 count)
 
 -- The input's parts, as the program takes them.
 module _ (input : List ℕ) {count : ℕ} (told : count ≡ word input 1) where

@@ -15,7 +15,7 @@ use Rattle.graph.specs.Read.{outsideSizes, headerRefusals}
 use Rattle.graph.proofs.Bridge.{within-sizes}
 use Rattle.graph.proofs.WordRuns.{part-word}
 use Rattle.verify.specs.Check.{CheckLent, checkEarly, checkInput, checkRefusals}
-use Rattle.page.specs.Page.{pageRefusals, pageNumber}
+use Rattle.page.specs.Page.{pageRefusals, pageAnswer}
 use Rattle.page_report.specs.Input.{sourceIn, countIn, distancesIn, parentsIn, fileIn, ownRefusals, programLists, longestInput}
 use Rattle.page_report.specs.Respond.{outputPlaces, numberLine, response}
 use Rattle.page_report.proofs.InputFacts.{own-count, own-fit}
@@ -36,8 +36,8 @@ last-refused n m = go (outsideSizes n m)
 
 -- a file that is longer than any
 file-long : (file : List ℕ) (source : ℕ) (distances parents : List ℕ) (lent : CheckLent) (room : ℕ) → fileLength maxVertices maxEdges < length file
-    → pageNumber file source distances parents lent room ≡ lastNumber (vertexCount file) (edgeCount file)
-unfolding pageNumber pageRefusals checkRefusals checkInput checkEarly headerRefusals first lastNumber
+    → pageAnswer file source distances parents lent room ≡ lastNumber (vertexCount file) (edgeCount file)
+unfolding pageAnswer pageRefusals checkRefusals checkInput checkEarly headerRefusals first lastNumber
 file-long file source distances parents lent room far = go (outsideSizes (vertexCount file) (edgeCount file)) refl
   where
     n : ℕ
@@ -46,7 +46,7 @@ file-long file source distances parents lent room far = go (outsideSizes (vertex
     m : ℕ
     m = edgeCount file
 
-    go : (b : Bool) → outsideSizes n m ≡ b → pageNumber file source distances parents lent room ≡ lastNumber n m
+    go : (b : Bool) → outsideSizes n m ≡ b → pageAnswer file source distances parents lent room ≡ lastNumber n m
     go true e = rw (le-ltb (length file) 4 (omega arith), e)
     go false e =
         let fit = within-sizes n m e in

@@ -2,7 +2,7 @@
 use mathlib.Core.Path.{_≡_, refl, sym, ap, _∙_}
 use mathlib.Core.Bool.{cond}
 use mathlib.Core.List.{List, [], _++_}
-use Prim.Native.Nat.{ℕ, _≤_, _<_}
+use Prim.Native.Nat.{ℕ, _≤_}
 use native.Mathlib.Decide.{ℕ-discrete}
 use native.Mathlib.Omega.{arith}
 use lib.Dec.{eqb}
@@ -16,10 +16,10 @@ use Rattle.graph.specs.File.{vertexCount}
 use Rattle.verify.specs.Check.{CheckLent, checkNumber}
 use Rattle.text.specs.Output.{respondExit}
 use Rattle.text.specs.Printed.{Printed, Prints}
-use Rattle.text.proofs.OutputFacts.{respond-short, respond-printed}
+use Rattle.text.proofs.OutputFacts.{respond-printed}
 use Rattle.text.proofs.PrintFacts.{prints-start}
 use Rattle.page.specs.Layout.{pageText, pageNeed}
-use Rattle.page.specs.Page.{pageNumber, pageRefusals, PageOutcome, outcomeOfPage}
+use Rattle.page.specs.Page.{pageAnswer, pageRefusals, PageOutcome, outcomeOfPage}
 use Rattle.page.specs.Promise.{pageExit}
 use Rattle.page.proofs.CallFacts.{number-passed, number-stopped, number-long}
 use Rattle.page.proofs.ReadBack.{accepted-few, accepted-length}
@@ -37,7 +37,7 @@ module _ (file : List ℕ) (source : ℕ) (distances parents : List ℕ) (lent :
 
   -- so more room changes nothing
   same-room : (room : ℕ) → outputPlaces ≤ room
-      → pageNumber file source distances parents lent room ≡ pageNumber file source distances parents lent outputPlaces
+      → pageAnswer file source distances parents lent room ≡ pageAnswer file source distances parents lent outputPlaces
   same-room room h = elim (ℕ-discrete (checkNumber file source distances parents lent) success) [
     | yes z ↦
         number-long file source distances parents lent room z (omega (arith, pages-fit z))
@@ -51,7 +51,7 @@ module _ (file : List ℕ) (source : ℕ) (distances parents : List ℕ) (lent :
 module _ (input : List ℕ) where
   -- the pages' number, with the program's lists
   abbrev paged : ℕ → ℕ
-  paged room = pageNumber (fileIn input) (sourceIn input) (distancesIn input) (parentsIn input) programLists room
+  paged room = pageAnswer (fileIn input) (sourceIn input) (distancesIn input) (parentsIn input) programLists room
 
   -- the program's own tests come first
   number-parts : first (respondRefusals input)
@@ -66,7 +66,7 @@ module _ (input : List ℕ) where
 
   -- past them the number is that of the pages
   pub number-later : first (ownRefusals input) ≡ success → first (respondRefusals input) ≡ paged outputPlaces
-  unfolding pageNumber
+  unfolding pageAnswer
   number-later e =
       number-parts
       ∙ first-append (ownRefusals input)
@@ -142,18 +142,8 @@ module _ (input output : List ℕ) (passed : first (ownRefusals input) ≡ succe
 
 -- The whole answer.
 module _ (input output : List ℕ) where
-  -- too short an output is left as it is
-  pub too-short : length output < outputPlaces → (respondExit 0 output ≡ outcomeOfRespond input output) × (0 ≤ length output)
-  unfolding outcomeOfRespond
-  too-short = respond-short outputPlaces (response input) output
-
   module _ {output′ : List ℕ} {count : ℕ} (room : outputPlaces ≤ length output) where
-    -- the program's output is printed
-    pub output-printed : Printed output (response input) output′ count → (respondExit count output′ ≡ outcomeOfRespond input output) × (count ≤ length output′)
-    unfolding outcomeOfRespond
-    output-printed = respond-printed outputPlaces (response input) output room
-
     -- a refusal of the program's own order
     pub own-printed : {number : ℕ} → number ≡ first (ownRefusals input) → (number ≡ success → ⊥) → Prints (numberLine number) output 0 output′ count
         → (respondExit count output′ ≡ outcomeOfRespond input output) × (count ≤ length output′)
-    own-printed e h p = output-printed (rw (own-line input e h) (p output [] (prints-start output)))
+    own-printed e h p = respond-printed outputPlaces (response input) output room (rw (own-line input e h) (p output [] (prints-start output)))

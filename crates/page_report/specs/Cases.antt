@@ -4,6 +4,7 @@ use Prim.Native.Nat.{ℕ}
 use lib.ListN.{length}
 use Rattle.graph.specs.BenchFiles.{wordsA}
 use Rattle.graph.specs.Encode.{bytesOf}
+use Rattle.page.specs.Cases.{distancesA, parentsA}
 
 -- an input by its parts
 unfoldable pub inputOf : ℕ → List ℕ → List ℕ → List ℕ → List ℕ
@@ -11,8 +12,8 @@ inputOf source distances parents words = bytesOf (source ∷ length distances �
 
 -- A's file, source and result
 abbrev pub inputA : List ℕ
-inputA = inputOf 0 (0 ∷ 1 ∷ 1 ∷ 2 ∷ []) (0 ∷ 0 ∷ 0 ∷ 1 ∷ []) wordsA
+inputA = inputOf 0 distancesA parentsA wordsA
 
 -- the same with one parent wrong
 abbrev pub inputWrong : List ℕ
-inputWrong = inputOf 0 (0 ∷ 1 ∷ 1 ∷ 2 ∷ []) (0 ∷ 0 ∷ 0 ∷ 0 ∷ []) wordsA
+inputWrong = inputOf 0 distancesA (0 ∷ 0 ∷ 0 ∷ 0 ∷ []) wordsA

@@ -22,7 +22,7 @@ respondRefusals input =
     ownRefusals input
     ++ pageRefusals (fileIn input) (sourceIn input) (distancesIn input) (parentsIn input) programLists outputPlaces
 
--- a refusal is a line with its number: "The answer is the number alone"
+-- a refusal is a line with its number (docs/DECISIONS.md, 80)
 unfoldable pub numberLine : ℕ → List ℕ
 numberLine number = decimal number ++ (lineFeed ∷ [])
 
@@ -33,5 +33,5 @@ response input =
     cond (eqb number success) (pageText (vertexCount (fileIn input)) (distancesIn input) (parentsIn input)) (numberLine number)
 
 -- the outcome of a call: a list that is too short for some output is left as it was, and nothing counts as written
-unfoldable pub outcomeOfRespond : List ℕ → List ℕ → RespondOutcome
+abbrev pub outcomeOfRespond : List ℕ → List ℕ → RespondOutcome
 outcomeOfRespond input output = respondBy outputPlaces (response input) output

@@ -12,15 +12,15 @@ use crate::OUTPUT_PLACES;
 use crate::input::copy_words;
 use crate::input::own_number;
 use graph::words::word;
-use page::layout::page_need;
 use page::page;
+use page::page_need;
 use text::LINE_FEED;
 use text::UNALIGNED;
 use text::put_field;
 
 // The line of a refusal.
 fn put_number_line(output: &mut [u8], number: usize) -> usize
-    requires { ⌜ outputPlaces ≤ length (now output) ⌝ }
+    requires { ⌜ 21 ≤ length (now output) ⌝ }
     ensures { λ r. ⌜ Prints (numberLine number) (now (output .entry)) 0 (now (output .exit)) r ⌝ }
 {
     put_field(output, 0, number, UNALIGNED, LINE_FEED)

@@ -1,12 +1,11 @@
 -- The program's lines in the pieces in which they are printed.
 use mathlib.Core.Path.{_≡_, refl, sym, ap, _∙_}
-use mathlib.Core.List.{List, [], _∷_, _++_, append-assoc, append-nil, map, map-append, flatten}
+use mathlib.Core.List.{List, [], _∷_, _++_, append-assoc, map, flatten}
 use Prim.Native.Nat.{ℕ, _+_}
-use native.Mathlib.Nat.{zero-add}
 use lib.ListN.{getD}
 use Rattle.lists.specs.Lists.{numbersFrom}
-use Rattle.lists.proofs.Chunks.{flatten-append}
-use Rattle.lists.proofs.Tests.{range-append}
+use Rattle.lists.proofs.Chunks.{flatten-more}
+use Rattle.lists.proofs.Tests.{map-range-more}
 use Rattle.text.specs.Text.{space, lineFeed, decimal, labelText, rightAligned}
 use Rattle.text.specs.Printed.{Prints}
 use Rattle.text.proofs.PrintFacts.{prints-then, prints-same}
@@ -37,14 +36,10 @@ vertex-lines-none distances parents = refl
 -- one line more
 pub vertex-lines-more : (v : ℕ) (distances parents : List ℕ)
     → vertexLines v distances parents ++ vertexLine v (getD distances v 0) (getD parents v 0) ≡ vertexLines (v + 1) distances parents
-unfolding vertexLines numbersFrom flatten
+unfolding vertexLines
 vertex-lines-more v distances parents =
     let line : ℕ → List ℕ = λ (u : ℕ). vertexLine u (getD distances u 0) (getD parents u 0) in
-    let last : flatten (map line (numbersFrom (0 + v) 1)) ≡ line v = rw (zero-add v) (append-nil (line v)) in
-    ap (λ (t : List ℕ). flatten (map line (numbersFrom 0 v)) ++ t) (sym last)
-    ∙ sym (flatten-append (map line (numbersFrom 0 v)) (map line (numbersFrom (0 + v) 1)))
-    ∙ ap flatten (sym (map-append line (numbersFrom 0 v) (numbersFrom (0 + v) 1)))
-    ∙ ap (λ (l : List ℕ). flatten (map line l)) (range-append 0 v 1)
+    sym (flatten-more (map line (numbersFrom 0 v)) (line v)) ∙ ap flatten (map-range-more line v)
 
 -- a step that prints the next line
 pub prints-line : (v : ℕ) (distances parents : List ℕ) {distance parent : ℕ} {output output′ output″ : List ℕ} {at at′ at″ : ℕ}

@@ -2,7 +2,7 @@
 use mathlib.Core.Path.{_≡_, refl, ap}
 use mathlib.Core.Bool.{true, false}
 use mathlib.Core.List.{List, []}
-use Prim.Native.Nat.{ℕ, _+_, _-_, _≤_, _<_}
+use Prim.Native.Nat.{ℕ, _+_, _-_, _≤_}
 use native.Mathlib.Omega.{arith}
 use lib.Dec.{eqb}
 use lib.ListN.{length, take, drop}
@@ -19,7 +19,7 @@ use Rattle.report.specs.Lines.{firstLine, vertexLines}
 use Rattle.report.specs.Respond.{searched, lines, refusedWith, response, outputPlaces, outcomeOfRespond}
 use Rattle.text.specs.Output.{respondExit}
 use Rattle.text.specs.Printed.{Printed, Prints}
-use Rattle.text.proofs.OutputFacts.{respond-short, respond-printed}
+use Rattle.text.proofs.OutputFacts.{respond-printed}
 use Rattle.text.proofs.PrintFacts.{prints-start}
 use Rattle.report.proofs.OutputFacts.{one-line, own-line}
 
@@ -75,26 +75,16 @@ module _ (input output : List ℕ) {r : Answer} {after : Lent} (told : searchExi
 
 -- The whole answer.
 module _ (input output : List ℕ) where
-  -- too short an output is left as it is
-  pub too-short : length output < outputPlaces → (respondExit 0 output ≡ outcomeOfRespond input output) × (0 ≤ length output)
-  unfolding outcomeOfRespond
-  too-short = respond-short outputPlaces (response input) output
-
   module _ {output′ : List ℕ} {count : ℕ} (room : outputPlaces ≤ length output) where
-    -- the program's output is printed
-    output-printed : Printed output (response input) output′ count → (respondExit count output′ ≡ outcomeOfRespond input output) × (count ≤ length output′)
-    unfolding outcomeOfRespond
-    output-printed = respond-printed outputPlaces (response input) output room
-
     -- a refusal of the program's own order
     pub respond-refused : {number : ℕ} → number ≡ first (ownRefusals input) → (number ≡ success → ⊥)
         → Prints (firstLine (refusedWith number)) output 0 output′ count
         → (respondExit count output′ ≡ outcomeOfRespond input output) × (count ≤ length output′)
-    respond-refused e h p = output-printed (rw (own-line input e h) (p output [] (prints-start output)))
+    respond-refused e h p = respond-printed outputPlaces (response input) output room (rw (own-line input e h) (p output [] (prints-start output)))
 
     -- or the search's lines
     pub respond-lines : {number : ℕ} → number ≡ first (ownRefusals input) → number ≡ success
         → Printed output (lines (vertexCount (fileIn input)) (searched input)) output′ count
         → (respondExit count output′ ≡ outcomeOfRespond input output) × (count ≤ length output′)
     unfolding response
-    respond-lines {number} e h p = output-printed (rw (← e, eq-eqb number success h) p)
+    respond-lines {number} e h p = respond-printed outputPlaces (response input) output room (rw (← e, eq-eqb number success h) p)

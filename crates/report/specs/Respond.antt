@@ -35,5 +35,5 @@ abbrev pub outputPlaces : ℕ
 outputPlaces = 84 + 16 * programVertices
 
 -- the outcome of a call: a list that is too short for some output is left as it was, and nothing counts as written
-unfoldable pub outcomeOfRespond : List ℕ → List ℕ → RespondOutcome
+abbrev pub outcomeOfRespond : List ℕ → List ℕ → RespondOutcome
 outcomeOfRespond input output = respondBy outputPlaces (response input) output

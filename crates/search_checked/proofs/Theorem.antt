@@ -27,7 +27,9 @@ use Rattle.search.proofs.KeptFacts.{call-keeps, played, success-plays}
 use Rattle.verify.specs.Check.{CheckLent, CheckOutcome, lentAfterCheck, checkNumber, outcomeOfCheck, judges}
 use Rattle.verify.specs.Promise.{RightLists}
 use Rattle.verify.proofs.Judging.{parts-passed, number-right}
+use Rattle.page.specs.Layout.{pageText, pageNeed}
 use Rattle.page.specs.Page.{PageOutcome, outcomeOfPage}
+use Rattle.page.specs.Promise.{pageExit}
 use Rattle.page.proofs.CallFacts.{number-long}
 use Rattle.search_checked.specs.Checked.{rowLists, Accepts, LaidOut}
 
@@ -128,11 +130,29 @@ module _ (file : List ℕ) (source P : ℕ) (schedule : List ℕ) (lent : call.L
         );
   }
 
-  -- and the pages
-  pub search-laid-out : LaidOut file source after
+  -- The pages.
+
+  -- a call that is lent long lists gives 0 and lays them out
+  laid-out : (distances parents : List ℕ) (other : CheckLent) (bytes : List ℕ) {left : CheckLent} {written : List ℕ} {number : ℕ}
+      → checkNumber file source distances parents other ≡ success → pageNeed (vertexCount file) ≤ length bytes
+      → pageExit number left written ≡ outcomeOfPage file source distances parents other bytes
+      → (number ≡ success) × (written ≡ overlay (pageText (vertexCount file) distances parents) bytes)
   unfolding outcomeOfPage
+  laid-out distances parents other bytes zeroth room answered =
+      let all = number-long file source distances parents other (length bytes) zeroth room in
+      (ap (λ (o : PageOutcome). o .number) answered ∙ all, ap (λ (o : PageOutcome). o .bytes) answered ∙ rw all)
+
+  -- the theorem
+  pub search-laid-out : LaidOut file source after
+  unfolding outcomeOfPage outcomeOfCheck
   search-laid-out = record {
     any-lists = λ distances parents same other bytes long room answered.
-        ap (λ (o : PageOutcome). o .number) answered
-        ∙ number-long file source distances parents other (length bytes) (number-zero distances parents same other long) room;
+        laid-out distances parents other bytes (number-zero distances parents same other long) room answered;
+    own-lists = λ bytes room answered.
+        let zeroth = number-zero (after .distances) (after .parents) refl (rowLists after) own-long in
+        let both = laid-out (after .distances) (after .parents) (rowLists after) bytes zeroth room answered in (
+          both .0,
+          ap (λ (o : PageOutcome). o .lent) answered ∙ ap (λ (k : ℕ). lentAfterCheck k file (rowLists after)) zeroth ∙ own-kept,
+          both .1,
+        );
   }

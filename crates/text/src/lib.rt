@@ -16,9 +16,6 @@ pub const LINE_FEED: u8 = 10;
 // The width of a field that has no columns of its own: no blank before it.
 pub const UNALIGNED: usize = 0;
 
-// An unset distance or parent, among words made wide.
-const UNSET: usize = numbers::UNSET as usize;
-
 // One byte.
 pub fn put_byte(output: &mut [u8], at: usize, byte: u8) -> usize
     requires { ⌜ at < length (now output) ⌝ }
@@ -84,7 +81,7 @@ pub fn put_label(output: &mut [u8], at: usize, word: usize, width: usize, delimi
         Prints (rightAligned width (labelText word) ++ (delimiter ∷ [])) (now (output .entry)) at (now (output .exit)) r
         ⌝ }
 {
-    if word == UNSET {
+    if word == numbers::WIDE_UNSET {
         let next = put_aligned(output, at, b"-", width);
         return put_byte(output, next, delimiter);
     }

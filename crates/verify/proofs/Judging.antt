@@ -63,7 +63,12 @@ module _ (file : List ℕ) (source : ℕ) (distances parents : List ℕ) (lent :
   unfolding checkInput checkEarly headerRefusals scanRefusals chainRefusals
   input-positive = omega arith
 
-  -- none of them gives 10
+  -- and so have all tests
+  pub checks-positive : Positive (checkRefusals file source distances parents lent)
+  unfolding checkRefusals checkInput checkEarly headerRefusals scanRefusals chainRefusals
+  checks-positive = omega arith
+
+  -- none of the input's gives 10
   input-other : first input ≡ badResult → ⊥
   unfolding checkInput checkEarly headerRefusals scanRefusals chainRefusals
   input-other e =

@@ -12,9 +12,7 @@ ghost use Rattle.model.specs.Words.{optionOf, labelsOf};
 ghost use Rattle.verify.specs.Certificate.{anyBeyond, parentWrong, vertexWrong, resultWrong};
 ghost use Rattle.verify.specs.Steps.{Checkable};
 use graph::words::element;
-
-// An unset distance or parent, among words made wide.
-const UNSET: usize = numbers::UNSET as usize;
+use numbers::WIDE_UNSET;
 
 // Whether some target of the row is unset or farther than `most`.
 fn any_beyond(row: &[u16], distances: &[u16], most: usize) -> bool
@@ -24,7 +22,7 @@ fn any_beyond(row: &[u16], distances: &[u16], most: usize) -> bool
     let mut i = 0;
     while i < row.len() {
         let reached = element(distances, element(row, i));
-        if reached == UNSET {
+        if reached == WIDE_UNSET {
             return true;
         }
         if most < reached {
@@ -67,7 +65,7 @@ fn parent_wrong(
         return true;
     }
     let parent_distance = element(distances, parent);
-    if parent_distance == UNSET {
+    if parent_distance == WIDE_UNSET {
         return true;
     }
     if parent_distance + 1 != distance {
@@ -96,8 +94,8 @@ fn vertex_wrong(
 {
     let distance = element(distances, vertex);
     let parent = element(parents, vertex);
-    if distance == UNSET {
-        return vertex == source || parent != UNSET;
+    if distance == WIDE_UNSET {
+        return vertex == source || parent != WIDE_UNSET;
     }
     if any_beyond(
         graph::links(offsets, targets, vertex),

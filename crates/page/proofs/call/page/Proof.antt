@@ -7,7 +7,7 @@ use Rattle.graph.specs.Steps.{Sized}
 use Rattle.verify.specs.Check.{CheckLent}
 use Rattle.verify.specs.Promise.{lentLists, Passed}
 use Rattle.verify.proofs.Judging.{passed-sized, passed-distances, passed-parents}
-use Rattle.page.proofs.CallFacts.{page-refused, page-short, page-printed, page-filed}
+use Rattle.page.proofs.CallFacts.{page-refused, page-short, page-printed, page-on-paper}
 use Rattle.page.proofs.call.page.Statement.{statement}
 use Rattle.page.proofs.call.page.Tie as tie
 
@@ -46,7 +46,7 @@ returns c =
     let s = entry checked in
     let a = s .args in
     let e = page-refused (a .file .now) (a .source) (a .distances .now) (a .parents .now) (lentOf s) (a .bytes .now) (checked .check .ensures .0) (c .if1 .taken) in
-    (e, page-filed (a .file .now) (a .source) (a .distances .now) (a .parents .now) (lentOf s) (a .bytes .now) e)
+    (e, page-on-paper (a .file .now) (a .source) (a .distances .now) (a .parents .now) (lentOf s) (a .bytes .now) e)
 
 -- the checker found nothing: what that tells of the input
 passed : (c : tie.Else1) → let s = entry (passed-at c) in
@@ -89,7 +89,7 @@ returns-2 c =
     let a = s .args in
     let e = page-short (a .file .now) (a .source) (a .distances .now) (a .parents .now) (lentOf s) (a .bytes .now) (checked .check .ensures .0)
     (read .before .if1 .left) (counted read) (omega (arith, needed .page-need .ensures, c .if2 .taken)) in
-    (e, page-filed (a .file .now) (a .source) (a .distances .now) (a .parents .now) (lentOf s) (a .bytes .now) e)
+    (e, page-on-paper (a .file .now) (a .source) (a .distances .now) (a .parents .now) (lentOf s) (a .bytes .now) e)
 
 put-pages-requires : tie.Need-put-pages-requires
 put-pages-requires c κs =
@@ -127,7 +127,7 @@ returns-3 c =
     let a = s .args in
     let e = page-printed (a .file .now) (a .source) (a .distances .now) (a .parents .now) (lentOf s) (a .bytes .now) (checked .check .ensures .0)
     (read .before .if1 .left) (counted read) (omega (arith, needed .page-need .ensures, long .if2 .left)) (put .put-pages .ensures .1) in
-    (e, page-filed (a .file .now) (a .source) (a .distances .now) (a .parents .now) (lentOf s) (a .bytes .now) e)
+    (e, page-on-paper (a .file .now) (a .source) (a .distances .now) (a .parents .now) (lentOf s) (a .bytes .now) e)
 
 pub page-spec : {M : Type 1} → statement M
 page-spec =

@@ -1,13 +1,15 @@
 -- `page_report::program::respond` meets its contract: an output that is too short, a refusal of the program's own, or what the call for the pages gave.
 use borrow.Author.Needs.{needs}
-use Rattle.page_report.proofs.RespondFacts.{too-short, output-printed, own-printed}
+use Rattle.text.proofs.OutputFacts.{respond-short, respond-printed}
+use Rattle.page_report.specs.Respond.{response, outputPlaces}
+use Rattle.page_report.proofs.RespondFacts.{own-printed}
 use Rattle.page_report.proofs.program.respond.Statement.{statement}
 use Rattle.page_report.proofs.program.respond.Tie as tie
 
 returns : tie.Need-returns
 returns c =
     let a = c .before .before .before .args in
-    too-short (a .input .now) (a .output .now) (c .if1 .taken)
+    respond-short outputPlaces (response (a .input .now)) (a .output .now) (c .if1 .taken)
 
 own-number-requires : tie.Need-own-number-requires
 own-number-requires c κs = search needs
@@ -40,7 +42,7 @@ returns-3 c =
     let judged = accepted .before in
     let long = judged .before in
     let a = long .before .before .before .args in
-    output-printed (a .input .now) (a .output .now) (long .if1 .left) (shown .page-and-print .ensures)
+    respond-printed outputPlaces (response (a .input .now)) (a .output .now) (long .if1 .left) (shown .page-and-print .ensures)
 
 pub respond-spec : {M : Type 1} → statement M
 respond-spec =

@@ -1,13 +1,15 @@
 -- `report::program::respond` meets its contract: an output that is too short, a refusal of the program's own, or the search's lines.
 use borrow.Author.Needs.{needs}
-use Rattle.report.proofs.RespondFacts.{too-short, respond-refused, respond-lines}
+use Rattle.text.proofs.OutputFacts.{respond-short}
+use Rattle.report.specs.Respond.{response, outputPlaces}
+use Rattle.report.proofs.RespondFacts.{respond-refused, respond-lines}
 use Rattle.report.proofs.program.respond.Statement.{statement}
 use Rattle.report.proofs.program.respond.Tie as tie
 
 returns : tie.Need-returns
 returns c =
     let a = c .before .before .before .args in
-    too-short (a .input .now) (a .output .now) (c .if1 .taken)
+    respond-short outputPlaces (response (a .input .now)) (a .output .now) (c .if1 .taken)
 
 own-number-requires : tie.Need-own-number-requires
 own-number-requires c κs = search needs
