@@ -1,7 +1,7 @@
 // One vertex's labels changed, in every way that a kind says.
 use crate::plans;
-use crate::plans::Plan;
-use crate::results::UNSET;
+use checkkit::plans::Plan;
+use checkkit::results::UNSET;
 use searchkit::labels::has_edge;
 use testkit::random::below;
 use testkit::random::next;

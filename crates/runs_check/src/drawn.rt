@@ -1,54 +1,23 @@
 // Results of drawn graphs: whole ones, and right ones with one vertex's labels changed. Behind the
 // first n places of both lists stands rubbish.
-use crate::calls::Query;
 use crate::calls::answers;
 use crate::changes;
 use crate::changes::Change;
 use crate::plans;
-use crate::plans::Plan;
-use crate::results;
-use crate::results::UNSET;
 use crate::sums::Outcome;
 use crate::sums::Sums;
 use crate::sums::none;
 use crate::sums::with;
-use searchkit::queue;
+use checkkit::graphs::draw;
+use checkkit::plans::Plan;
+use checkkit::plans::number_of;
+use checkkit::queries::Query;
+use checkkit::results;
+use checkkit::results::UNSET;
 use searchkit::requests::Lengths;
-use testkit::random::below;
-use testkit::random::leap;
-use testkit::random::next;
-use testkit::sample;
-use testkit::sample::after;
 use testkit::sample::file_length;
 use testkit::words::at;
 use testkit::words::put;
-
-// Rubbish: 0, unset, a small number, or any.
-fn rubbish(seed: u64) -> u16 {
-    let choice = below(seed, 4);
-    if choice == 0 {
-        return 0;
-    }
-    if choice == 1 {
-        return UNSET;
-    }
-    below(next(seed), if choice == 2 { 40 } else { UNSET })
-}
-
-// Eight places of rubbish from this one on.
-fn spoil(list: &mut [u16], from: u16, seed: u64) {
-    let mut count: u16 = 0;
-    let mut state = seed;
-    while count < 8 {
-        state = next(state);
-        put(
-            list,
-            std::num::wrapping_add_u16(from, count),
-            rubbish(state),
-        );
-        count += 1;
-    }
-}
 
 // Judges the result, and checks it.
 fn checked(
@@ -62,7 +31,7 @@ fn checked(
     parents: &[u16],
 ) -> Outcome {
     let result = results::number(plan, wanted, distances, parents, rows, row_targets);
-    let number = plans::number_of(plan, lengths, result);
+    let number = number_of(plan, lengths, result);
     let query = Query {
         source: plan.source as usize,
         vertices: plan.vertices,
@@ -173,16 +142,7 @@ fn cases(
     let mut wanted = [UNSET; 4102];
     let mut distances = [UNSET; 4102];
     let mut parents = [UNSET; 4102];
-    let mut room = [0u16; 4102];
-    queue::search(
-        plan.source,
-        plan.vertices,
-        plan.edges,
-        rows,
-        row_targets,
-        &mut wanted,
-        &mut room,
-    );
+    results::measure(plan.source, plan, rows, row_targets, &mut wanted);
     results::make(
         plans::kind_of(group, case),
         plan,
@@ -192,8 +152,6 @@ fn cases(
         &mut distances,
         &mut parents,
     );
-    spoil(&mut distances, plan.vertices, plan.seed);
-    spoil(&mut parents, plan.vertices, leap(plan.seed));
     all_tried(
         group,
         changes::first(group, case),
@@ -208,49 +166,6 @@ fn cases(
         &mut distances,
         &mut parents,
     )
-}
-
-// A path of this many edges, from vertex 0 on: its edges, and the rows up to its end.
-fn line(edges: u16, sources: &mut [u16], row_targets: &mut [u16], rows: &mut [u16]) {
-    let mut edge: u16 = 0;
-    while edge < edges {
-        let next = after(edge);
-        put(sources, edge, edge);
-        put(row_targets, edge, next);
-        put(rows, next, next);
-        put(rows, after(next), next);
-        edge += 1;
-    }
-}
-
-// Draws a graph; a path of this many edges takes the place of its first ones.
-fn draw(
-    edges: u16,
-    plan: Plan,
-    file: &mut [u8],
-    sources: &mut [u16],
-    row_targets: &mut [u16],
-    rows: &mut [u16],
-    order: &mut [u16],
-) {
-    sample::draw(
-        sources,
-        row_targets,
-        rows,
-        plan.vertices,
-        plan.edges,
-        plan.seed,
-    );
-    line(edges, sources, row_targets, rows);
-    sample::encode_shuffled(
-        file,
-        plan.vertices,
-        plan.edges,
-        sources,
-        row_targets,
-        order,
-        plan.seed,
-    );
 }
 
 // Draws the graph of a case into these lists, and checks.

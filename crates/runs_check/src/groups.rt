@@ -1,19 +1,20 @@
 // The groups: one loop goes through the cases of a group.
+use crate::calls::answers;
 use crate::drawn;
 use crate::plans;
+use crate::sums::Outcome;
 use crate::sums::Sums;
 use crate::sums::and;
 use crate::sums::none;
 use crate::sums::with;
-use crate::tables;
+use checkkit::plans::COMBINATIONS;
+use checkkit::results::LONGER;
+use checkkit::results::RIGHT;
+use checkkit::tables;
 use libc::STDOUT_FILENO;
 
-// The groups after those of `plans`.
-const REFUSALS: u16 = 13;
-
-const SOURCES: u16 = 14;
-
-const FAULTS: u16 = 15;
+// The groups after those of `plans`: the tables.
+const TABLES: u16 = 13;
 
 // How many graphs are drawn for right results and longer paths, for other results, for changes, and
 // for changes with longer lists.
@@ -25,18 +26,34 @@ const CHANGED: u16 = 100;
 
 const LONG: u16 = 20;
 
+// A case of a table.
+fn tabled(table: u16, case: u16) -> Outcome {
+    let mut file = [0u8; 32];
+    let mut distances = tables::DISTANCES;
+    let mut parents = tables::PARENTS;
+    let made = tables::make(table, case, &mut file);
+    let query = made.query;
+    tables::put_labels(made.labels, &mut distances, &mut parents);
+    let right = answers(
+        &file,
+        query,
+        &distances,
+        &parents,
+        &tables::ROWS,
+        &tables::ROW_TARGETS,
+    );
+    Outcome {
+        number: query.number,
+        right,
+    }
+}
+
 // A case of a group.
 fn sums_of(group: u16, case: u16) -> Sums {
-    if group == REFUSALS {
-        return with(none(), tables::refusal(case));
+    if group < TABLES {
+        return drawn::sums_of(group, case);
     }
-    if group == SOURCES {
-        return with(none(), tables::source(case));
-    }
-    if group == FAULTS {
-        return with(none(), tables::fault(case));
-    }
-    drawn::sums_of(group, case)
+    with(none(), tabled(group - TABLES, case))
 }
 
 // All cases of a group.
@@ -61,20 +78,28 @@ fn print(group: u16, cases: u16, name: &[u8]) {
 
 // Results of small graphs.
 fn run_results() {
-    print(plans::RIGHT, GRAPHS, b"right results");
+    print(RIGHT, GRAPHS, b"right results");
     print(plans::VERTICES, CHANGED, b"changed labels");
     print(plans::EDGES, CHANGED, b"other edges");
     print(plans::LONG, LONG, b"longer lists");
-    print(plans::LONGER, GRAPHS, b"longer paths");
+    print(LONGER, GRAPHS, b"longer paths");
     print(plans::OTHER, OTHERS, b"other results");
 }
 
 // Refusals, lengths and sizes.
 fn run_inputs() {
-    print(REFUSALS, tables::REFUSALS, b"refusals");
-    print(SOURCES, tables::SOURCES, b"sources");
-    print(FAULTS, tables::FAULTS, b"sets of faults");
-    print(plans::LENGTHS, plans::COMBINATIONS, b"lengths");
+    print(
+        TABLES + tables::REFUSALS,
+        tables::REFUSAL_CASES,
+        b"refusals",
+    );
+    print(TABLES + tables::SOURCES, tables::SOURCE_CASES, b"sources");
+    print(
+        TABLES + tables::FAULTS,
+        tables::FAULT_CASES,
+        b"sets of faults",
+    );
+    print(plans::LENGTHS, COMBINATIONS, b"lengths");
     print(plans::SIZES, plans::SIZE_CASES, b"sizes");
     print(plans::LARGE, plans::LARGE_CASES, b"largest graphs");
 }

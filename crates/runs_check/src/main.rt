@@ -7,9 +7,7 @@ mod changes;
 mod drawn;
 mod groups;
 mod plans;
-mod results;
 mod sums;
-mod tables;
 
 fn main() {
     groups::run();

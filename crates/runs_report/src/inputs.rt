@@ -2,9 +2,9 @@
 use searchkit::base::FILE;
 use searchkit::base::SCHEDULE;
 use searchkit::requests::Request;
-use testkit::files::at;
-use testkit::files::put;
+use testkit::files::copy;
 use testkit::files::put_word;
+use testkit::files::put_word_at;
 use testkit::files::put_words;
 
 // The words of an input, and the length of its file in bytes.
@@ -13,16 +13,6 @@ pub struct Parts {
     pub workers: u16,
     pub events: u16,
     pub file: u16,
-}
-
-// Copies the first bytes of a list to a place of the input.
-fn copy(bytes: &[u8], count: u16, input: &mut [u8], place: usize) {
-    let mut i: u16 = 0;
-    while i < count {
-        let to = std::num::wrapping_add_usize(place, i as usize);
-        put(input, to, at(bytes, i as usize));
-        i += 1;
-    }
 }
 
 // Where the file starts.
@@ -40,20 +30,15 @@ pub fn put_head(input: &mut [u8], source: u16, workers: u16, events: u16) {
 // Stores a word of the file.
 pub fn put_file_word(input: &mut [u8], events: u16, place: u16, word: u16) {
     let i = std::num::wrapping_add_usize(file_start(events), 2 * (place as usize));
-    put(input, i, (word % 256) as u8);
-    put(
-        input,
-        std::num::wrapping_add_usize(i, 1),
-        (word / 256) as u8,
-    );
+    put_word_at(input, i, word);
 }
 
 // Puts an input together. The answer is its length.
 pub fn compose(input: &mut [u8], parts: Parts, schedule: &[u8], file: &[u8]) -> usize {
     let start = file_start(parts.events);
     put_head(input, parts.source, parts.workers, parts.events);
-    copy(schedule, parts.events, input, 6);
-    copy(file, parts.file, input, start);
+    copy(schedule, parts.events as usize, input, 6);
+    copy(file, parts.file as usize, input, start);
     std::num::wrapping_add_usize(start, parts.file as usize)
 }
 

@@ -1,22 +1,11 @@
 // Calls of `respond`, each with its output read back and compared.
 use crate::text;
 use searchkit::requests::Outcome;
+use testkit::files::is_filled;
 use testkit::files::prefix;
 
 // What the output list holds before a call, at every place. No output has this byte.
 pub const BLANK: u8 = 255;
-
-// Whether the list holds `BLANK` at every place from `from` on.
-pub fn is_blank(list: &[u8], from: usize) -> bool {
-    let mut i = from;
-    while i < list.len() {
-        if list[i] != BLANK {
-            return false;
-        }
-        i += 1;
-    }
-    true
-}
 
 // The answer to the first bytes of the input, with the first places of the output.
 pub fn respond(input: &[u8], length: usize, output: &mut [u8], places: usize) -> usize {
@@ -52,7 +41,7 @@ pub fn ask(
     let seen = done.seen;
     Outcome {
         seen,
-        right: done.right & is_blank(&output, count),
+        right: done.right & is_filled(&output, count, BLANK),
     }
 }
 

@@ -3,9 +3,9 @@
 use crate::inputs::put_file_word;
 use crate::inputs::put_head;
 use crate::replies::BLANK;
-use crate::replies::is_blank;
 use crate::replies::read;
 use crate::replies::respond;
+use testkit::files::is_filled;
 use testkit::words::at;
 
 pub const CASES: u16 = 33;
@@ -49,7 +49,7 @@ fn is_written(output: &[u8], count: usize, case: u16) -> bool {
     let done = read(output, count, cell(case, 0), &mut distances, &mut parents);
     let seen = done.seen;
     let text = done.right & (seen.number == cell(case, 2) as usize);
-    text & (count == cell(case, 3) as usize) & is_blank(output, count)
+    text & (count == cell(case, 3) as usize) & is_filled(output, count, BLANK)
 }
 
 pub fn is_right(case: u16) -> bool {
@@ -59,7 +59,7 @@ pub fn is_right(case: u16) -> bool {
     put_file_word(&mut input, 0, 0, cell(case, 0));
     let count = respond(&input, cell(case, 1) as usize, &mut output, places(case));
     if places(case) < NEED {
-        return (count == 0) & is_blank(&output, 0);
+        return (count == 0) & is_filled(&output, 0, BLANK);
     }
     is_written(&output, count, case)
 }

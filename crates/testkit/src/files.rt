@@ -28,6 +28,27 @@ pub fn is_stamped(list: &[u8], from: usize, tag: u8) -> bool {
     true
 }
 
+// Whether the list holds the byte at every place from `from` on.
+pub fn is_filled(list: &[u8], from: usize, byte: u8) -> bool {
+    let mut i = from;
+    while i < list.len() {
+        if list[i] != byte {
+            return false;
+        }
+        i += 1;
+    }
+    true
+}
+
+// Copies the first `count` bytes of a list to a place of another one; past the ends nothing.
+pub fn copy(from: &[u8], count: usize, to: &mut [u8], place: usize) {
+    let mut i = 0;
+    while i < count {
+        put(to, std::num::wrapping_add_usize(place, i), at(from, i));
+        i += 1;
+    }
+}
+
 // Whether both lists have `count` places or more, and agree in the first `count`.
 pub fn agree(a: &[u8], b: &[u8], count: usize) -> bool {
     if a.len() < count {
@@ -83,11 +104,19 @@ pub fn word(file: &[u8], place: usize) -> u16 {
     low + 256 * high
 }
 
+// Stores a word at a place that counts bytes.
+pub fn put_word_at(file: &mut [u8], place: usize, word: u16) {
+    put(file, place, (word % 256) as u8);
+    put(
+        file,
+        std::num::wrapping_add_usize(place, 1),
+        (word / 256) as u8,
+    );
+}
+
 // Stores a word at a place that counts words.
 pub fn put_word(file: &mut [u8], place: usize, word: u16) {
-    let i = std::num::wrapping_add_usize(place, place);
-    put(file, i, (word % 256) as u8);
-    put(file, std::num::wrapping_add_usize(i, 1), (word / 256) as u8);
+    put_word_at(file, std::num::wrapping_add_usize(place, place), word);
 }
 
 // Stores words from the file's start on.
