@@ -262,3 +262,19 @@ pub fn number(
     let judged = labels::judge(view, distances, parents, wanted, rows, row_targets);
     if judged.right { 0 } else { 10 }
 }
+
+// A result of a kind, as `make` makes it; the answer is its number.
+pub fn make_judged(
+    kind: u16,
+    plan: Plan,
+    sources: &[u16],
+    rows: &[u16],
+    row_targets: &[u16],
+    distances: &mut [u16],
+    parents: &mut [u16],
+) -> usize {
+    let mut wanted = [UNSET; 4110];
+    measure(plan.source, plan, rows, row_targets, &mut wanted);
+    make(kind, plan, sources, rows, row_targets, distances, parents);
+    number(plan, &wanted, distances, parents, rows, row_targets)
+}

@@ -6,8 +6,8 @@ use checkkit::graphs::draw;
 use checkkit::plans::Plan;
 use checkkit::plans::number_of;
 use checkkit::queries::Query;
-use checkkit::results;
 use checkkit::results::UNSET;
+use checkkit::results::make_judged;
 use searchkit::requests::Lengths;
 use testkit::sample::file_length;
 
@@ -33,11 +33,9 @@ fn called(
     rows: &[u16],
     row_targets: &[u16],
 ) -> Outcome {
-    let mut wanted = [UNSET; 4110];
     let mut distances = [UNSET; 4110];
     let mut parents = [UNSET; 4110];
-    results::measure(plan.source, plan, rows, row_targets, &mut wanted);
-    results::make(
+    let result = make_judged(
         plans::kind_of(group, case),
         plan,
         sources,
@@ -46,7 +44,6 @@ fn called(
         &mut distances,
         &mut parents,
     );
-    let result = results::number(plan, &wanted, &distances, &parents, rows, row_targets);
     let query = query_of(plan, plans::lengths_of(group, case, plan), result);
     let room = plans::room_of(group, case, plan);
     call(file, query, room, &distances, &parents, rows, row_targets)

@@ -5,9 +5,9 @@ use crate::replies::answers;
 use checkkit::graphs::draw;
 use checkkit::plans::Plan;
 use checkkit::plans::medium;
-use checkkit::results;
 use checkkit::results::KINDS;
 use checkkit::results::UNSET;
+use checkkit::results::make_judged;
 use testkit::sample::file_length;
 
 // A result of each kind for each of so many graphs.
@@ -50,21 +50,17 @@ fn is_answered(task: Task, number: u16, distances: &[u16], parents: &[u16], file
 
 // Makes the result of a task for its graph, judges it, and asks.
 fn is_judged(task: Task, file: &[u8], sources: &[u16], rows: &[u16], row_targets: &[u16]) -> bool {
-    let mut wanted = [UNSET; 4110];
     let mut distances = [UNSET; 4110];
     let mut parents = [UNSET; 4110];
-    let plan = task.plan;
-    results::measure(plan.source, plan, rows, row_targets, &mut wanted);
-    results::make(
+    let result = make_judged(
         task.kind,
-        plan,
+        task.plan,
         sources,
         rows,
         row_targets,
         &mut distances,
         &mut parents,
     );
-    let result = results::number(plan, &wanted, &distances, &parents, rows, row_targets);
     is_answered(task, number_of(task, result), &distances, &parents, file)
 }
 
