@@ -17,6 +17,3 @@ pub mod ReadFacts
 pub mod EarlyFacts
 pub mod UnchainFacts
 pub mod InView
-pub mod WellFormedRows
-pub mod Encoding
-pub mod Storing

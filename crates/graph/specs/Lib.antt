@@ -1,4 +1,4 @@
--- The adjacency file, the graph that it holds, and what each call of this crate answers and leaves. Read in this order.
+-- The adjacency file, the graph that it holds, and what reader, writer (crate `writer`) and view answer and leave. Read in this order.
 pub mod Graph
 pub mod File
 pub mod Read
@@ -6,5 +6,4 @@ pub mod Encode
 pub mod Write
 pub mod Links
 pub mod Steps
-pub mod WriteSteps
 pub mod BenchFiles

@@ -14,7 +14,7 @@ pub fn write_and_read(
 ) -> usize
     ensures { λ r. ⌜ tripExit r (now (file .exit)) (now («offsets_read» .exit)) (now («targets_read» .exit)) (now (marks .exit)) ≡ outcomeOfTrip (now (offsets .entry)) (now (targets .entry)) (now (file .entry)) (now («offsets_read» .entry)) (now («targets_read» .entry)) (now (marks .entry)) ⌝ }
 {
-    let number = graph::write(offsets, targets, file);
+    let number = writer::write(offsets, targets, file);
     if number != numbers::SUCCESS {
         return number;
     }

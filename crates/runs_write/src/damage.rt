@@ -1,5 +1,6 @@
 // Good rows with damage. What writing them must answer is foretold here by a plain check; what is
 // written must be read back as the same rows.
+use crate::writing;
 use testkit::random::below;
 use testkit::random::leap;
 use testkit::random::next;
@@ -8,7 +9,6 @@ use testkit::sample::draw;
 use testkit::tally::Tally;
 use testkit::words::at;
 use testkit::words::put;
-use testkit::writing;
 
 const VERTICES: u16 = 9;
 
@@ -67,7 +67,7 @@ fn comes_back(offsets: &[u16], targets: &[u16]) -> bool {
     let mut got_targets = [0u16; 20];
     let mut marks = [0u16; 20];
     let lengths = reading::needs(VERTICES, EDGES);
-    let number = graph::write(offsets, targets, &mut file);
+    let number = writer::write(offsets, targets, &mut file);
     let back = reading::reads(
         &file,
         &mut got_offsets,

@@ -1,9 +1,9 @@
 // Rows of drawn graphs, of any size and at any lengths of the lists.
+use crate::writing::Lengths;
+use crate::writing::answers;
 use testkit::sample::draw;
 use testkit::sample::encode_in_order;
 use testkit::sample::file_length;
-use testkit::writing::Lengths;
-use testkit::writing::answers;
 
 // Draws a graph and makes the file that is wanted of it.
 fn make(offsets: &mut [u16], targets: &mut [u16], want: &mut [u8], vertices: u16, edges: u16) {

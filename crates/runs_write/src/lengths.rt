@@ -1,9 +1,9 @@
 // The lists of a call of the writer one short, at their need and longer, in all combinations, for
 // one graph. The writer reads its sizes off the rows' lengths, so that only the bytes may be longer.
 use crate::drawn;
+use crate::writing::Lengths;
 use testkit::tally::Tally;
 use testkit::words::extra;
-use testkit::writing::Lengths;
 
 const VERTICES: u16 = 37;
 

@@ -1,4 +1,4 @@
-// Runs `graph::write`, alone and back through `graph::read`, and the view `graph::links`, and writes
+// Runs `writer::write`, alone and back through `graph::read`, and the view `graph::links`, and writes
 // a line for each group: how many cases it had, and how many went wrong.
 mod damage;
 mod drawn;
@@ -7,6 +7,7 @@ mod refusals;
 mod sizes;
 mod trips;
 mod view;
+mod writing;
 
 fn main() {
     refusals::run();

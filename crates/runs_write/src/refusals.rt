@@ -1,11 +1,11 @@
 // Rows that the writer must turn down. Each case changes one offset and one target of good rows,
 // cuts the lists to given lengths, and sees that no byte is changed.
+use crate::writing::Lengths;
+use crate::writing::refuses;
+use crate::writing::writes;
 use testkit::files::put_words;
 use testkit::tally::Tally;
 use testkit::words::put;
-use testkit::writing::Lengths;
-use testkit::writing::refuses;
-use testkit::writing::writes;
 
 // Good rows: 4 vertices, 4 edges, a file of 28 bytes. A place past the need holds 4 or 0.
 const OFFSETS: [u16; 8] = [0, 2, 3, 4, 4, 4, 0, 0];

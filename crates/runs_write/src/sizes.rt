@@ -1,8 +1,8 @@
 // The largest rows that may be written, and the smallest that are too large, with the lists at their
 // need. What is written must be the file that the tests make of the same graph.
 use crate::drawn;
+use crate::writing::needs;
 use testkit::tally::Tally;
-use testkit::writing::needs;
 
 fn is_right(vertices: u16, edges: u16, number: usize) -> bool {
     drawn::is_right(vertices, edges, needs(vertices, edges), number)

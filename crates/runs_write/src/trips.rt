@@ -1,5 +1,6 @@
 // There and back: random rows are written and read, files with their records in any order are read
 // and written. Empty rows, parallel edges and edges to oneself come up by themselves.
+use crate::writing;
 use testkit::random::below;
 use testkit::random::leap;
 use testkit::random::next;
@@ -9,7 +10,6 @@ use testkit::sample::encode_in_order;
 use testkit::sample::encode_shuffled;
 use testkit::sample::file_length;
 use testkit::tally::Tally;
-use testkit::writing;
 
 const ROUNDS: u16 = 200;
 

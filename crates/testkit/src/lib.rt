@@ -9,4 +9,3 @@ pub mod reading;
 pub mod sample;
 pub mod tally;
 pub mod words;
-pub mod writing;

@@ -1,4 +1,4 @@
--- `graph::writer::put_records` meets its contract. The loop's invariant: k edges are written, and k lies within the row of `vertex`. A
+-- `writer::put_records` meets its contract. The loop's invariant: k edges are written, and k lies within the row of `vertex`. A
 -- turn either leaves a row that is used up or writes one record. The measure is how many vertices and edges are left.
 use mathlib.Core.Path.{_≡_, refl, sym, ap, _∙_}
 use mathlib.Core.List.{List}
@@ -8,14 +8,14 @@ use native.Mathlib.Numerals.{add-one}
 use native.Mathlib.Omega.{arith}
 use lib.ListN.{length, getD, set}
 use denote.Ref.{now}
 use Rattle.graph.specs.Graph.{rowsOf}
 use Rattle.graph.specs.Encode.{fileWords, encode}
-use Rattle.graph.specs.WriteSteps.{indexAfter}
-use Rattle.graph.proofs.Encoding.{Written, same-index}
-use Rattle.graph.proofs.Storing.{Begun, begun-put, begun-count, begun-all}
-use Rattle.graph.proofs.WellFormedRows.{written-rows}
-use Rattle.graph.proofs.writer.put_records.Statement.{statement}
-use Rattle.graph.proofs.writer.put_records.Tie as tie
+use Rattle.writer.specs.Steps.{indexAfter}
+use Rattle.writer.proofs.Encoding.{Written, same-index}
+use Rattle.writer.proofs.Storing.{Begun, begun-put, begun-count, begun-all}
+use Rattle.writer.proofs.WellFormedRows.{written-rows}
+use Rattle.writer.proofs.put_records.Statement.{statement}
+use Rattle.writer.proofs.put_records.Tie as tie
 
 -- where the loop stands: k edges are written, and those of the vertices before `vertex` are among them
 record Reached (offsets targets : List ℕ) (n : ℕ) (old file : List ℕ) (vertex k : ℕ) : Type 0 where

@@ -8,10 +8,10 @@ use native.Mathlib.Numerals.{sub-one}
 use native.Mathlib.Omega.{arith}
 use lib.ListN.{length, getD}
 use Rattle.lists.proofs.Rows.{Rising}
 use Rattle.graph.specs.Write.{malformed, rowCount}
-use Rattle.graph.specs.WriteSteps.{WellFormed}
+use Rattle.writer.specs.Steps.{WellFormed}
 use Rattle.graph.proofs.Bridge.{Accepted, accept-rows, rows-rising}
-use Rattle.graph.proofs.Encoding.{Written, written-rising}
+use Rattle.writer.proofs.Encoding.{Written, written-rising}
 
 -- what the steps of writing take for granted
 pub well-formed : (offsets targets : List ℕ) → malformed offsets targets ≡ false → WellFormed offsets targets (length offsets - 1)

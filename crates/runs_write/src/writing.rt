@@ -1,11 +1,11 @@
-// Calls of `graph::write`, each compared in full with what it must answer and leave. The lent bytes
+// Calls of `writer::write`, each compared in full with what it must answer and leave. The lent bytes
 // have known contents at entry, and the lists may be longer than what is lent of them.
-use crate::files;
-use crate::files::agree;
-use crate::files::is_stamped;
-use crate::files::stamp;
-use crate::sample::file_length;
-use crate::words::prefix;
+use testkit::files;
+use testkit::files::agree;
+use testkit::files::is_stamped;
+use testkit::files::stamp;
+use testkit::sample::file_length;
+use testkit::words::prefix;
 
 // What `stamp` puts into the bytes before a call.
 const TAG: u8 = 9;
@@ -31,7 +31,7 @@ fn write_at(offsets: &[u16], targets: &[u16], file: &mut [u8], lengths: Lengths)
     let o = prefix(offsets, lengths.offsets);
     let t = prefix(targets, lengths.targets);
     let f = files::prefix(file, lengths.file);
-    graph::write(&offsets[..o], &targets[..t], &mut file[..f])
+    writer::write(&offsets[..o], &targets[..t], &mut file[..f])
 }
 
 // Whether the rows are turned down with this number and no byte is changed.

@@ -1,4 +1,4 @@
--- `graph::writer::any_target_reaches` meets its contract. The loop's invariant: the whole list has such a target where the rest from i on
+-- `writer::any_target_reaches` meets its contract. The loop's invariant: the whole list has such a target where the rest from i on
 -- has one. The measure is what is left of the list.
 use mathlib.Core.Bool.{_||_}
 use mathlib.Core.Path.{_≡_, refl, sym, _∙_}
@@ -11,8 +11,8 @@ use borrow.Author.Tests.{le-leb, lt-leb}
 use Rattle.lists.specs.Lists.{reaches}
 use Rattle.lists.proofs.Or.{or-found, or-passed}
 use Rattle.lists.proofs.Rows.{reaches-more, reaches-end}
-use Rattle.graph.proofs.writer.any_target_reaches.Statement.{statement}
-use Rattle.graph.proofs.writer.any_target_reaches.Tie as tie
+use Rattle.writer.proofs.any_target_reaches.Statement.{statement}
+use Rattle.writer.proofs.any_target_reaches.Tie as tie
 
 abbrev Inv-loop : tie.InvT-loop
 Inv-loop targets limit i₀ i = reaches limit targets ≡ reaches limit (drop i targets)

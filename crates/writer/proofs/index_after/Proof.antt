@@ -1,10 +1,10 @@
--- `graph::writer::index_after` meets its contract: each way out rewrites the index with the test that led there.
+-- `writer::index_after` meets its contract: each way out rewrites the index with the test that led there.
 use native.Mathlib.Numerals.{add-one}
 use borrow.Author.Tests.{eq-eqb, ne-eqb}
-use Rattle.graph.specs.WriteSteps.{indexAfter}
+use Rattle.writer.specs.Steps.{indexAfter}
 use borrow.Author.Needs.{needs}
-use Rattle.graph.proofs.writer.index_after.Statement.{statement}
-use Rattle.graph.proofs.writer.index_after.Tie as tie
+use Rattle.writer.proofs.index_after.Statement.{statement}
+use Rattle.writer.proofs.index_after.Tie as tie
 
 returns : tie.Need-returns
 unfolding indexAfter

@@ -9,11 +9,11 @@ use lib.ListN.{length, getD, take, drop, length-append, length-drop, List·getD-
 use lib.Seq.{getD-take, getD-drop, length-take-le}
 use borrow.Author.Tests.{eq-eqb, ne-eqb}
 use Rattle.lists.proofs.Rows.{Rising, ends, rises, rising-below, rising-above, rising-step, Two, two-same, two-behind, two-before, two-later}
 use Rattle.graph.specs.Graph.{Graph, targetsOf, rowsOf}
 use Rattle.graph.specs.Encode.{headOf, headsFrom, rowRecords, recordsFrom, fileWords}
-use Rattle.graph.specs.WriteSteps.{indexAfter}
+use Rattle.writer.specs.Steps.{indexAfter}
 use Rattle.graph.proofs.Bridge.{length-rows, row-between, rows-from}
 use Rattle.graph.proofs.EncodeFacts.{length-heads, length-row, length-records}
 
 -- the index is that of equal numbers
 pub same-index : {k l end stop : ℕ} → k ≡ l → end ≡ stop → indexAfter k end ≡ indexAfter l stop

@@ -1,4 +1,4 @@
--- `graph::writer::falls` meets its contract. The loop's invariant: the whole list falls where the rest from i on, judged against the
+-- `writer::falls` meets its contract. The loop's invariant: the whole list falls where the rest from i on, judged against the
 -- last offset passed, does. The measure is what is left of the list.
 use mathlib.Core.Bool.{_||_}
 use mathlib.Core.Path.{_≡_, refl, sym, _∙_}
@@ -11,8 +11,8 @@ use borrow.Author.Tests.{lt-ltb, le-ltb}
 use Rattle.lists.specs.Lists.{fallsFrom}
 use Rattle.lists.proofs.Or.{or-found, or-passed}
 use Rattle.lists.proofs.Rows.{falls-more, falls-end}
-use Rattle.graph.proofs.writer.falls.Statement.{statement}
-use Rattle.graph.proofs.writer.falls.Tie as tie
+use Rattle.writer.proofs.falls.Statement.{statement}
+use Rattle.writer.proofs.falls.Tie as tie
 
 abbrev Inv-loop : tie.InvT-loop
 Inv-loop offsets last₀ i₀ last i = fallsFrom 0 offsets ≡ fallsFrom last (drop i offsets)

@@ -1,4 +1,4 @@
--- `graph::writer::malformed` meets its contract: each way out rewrites the tests with what led there.
+-- `writer::malformed` meets its contract: each way out rewrites the tests with what led there.
 use mathlib.Core.Bool.{true, false, not, _||_, or-false}
 use mathlib.Core.Path.{_≡_, sym, _∙_}
 use mathlib.Core.List.{List}
@@ -9,11 +9,11 @@ use lib.ListN.{length, getD}
 use borrow.Author.Needs.{needs}
 use borrow.Author.Tests.{eq-eqb, ne-eqb}
 use Rattle.lists.specs.Lists.{fallsFrom, reaches}
 use Rattle.graph.specs.Read.{outsideSizes}
 use Rattle.graph.specs.Write.{rowCount}
 use Rattle.graph.specs.Write.{malformed as Write·malformed}
-use Rattle.graph.proofs.writer.malformed.Statement.{statement}
-use Rattle.graph.proofs.writer.malformed.Tie as tie
+use Rattle.writer.proofs.malformed.Statement.{statement}
+use Rattle.writer.proofs.malformed.Tie as tie
 
 module _ (offsets targets : List ℕ) where
   -- no offset at all

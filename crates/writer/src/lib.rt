@@ -1,18 +1,19 @@
-// The writer: rows to the one encoding that numbers records 1 to m in row order. Words are stored
-// from the front, so that a prefix of the file is written at any moment.
+// The writer of the adjacency file: rows to the one encoding that numbers records 1 to m in row order.
+// Words are stored from the front, so that a prefix of the file is written at any moment. `write` is
+// the outside call; it assumes nothing.
 ghost use mathlib.Core.Path.{_≡_};
 ghost use Prim.Native.Nat.{_+_, _*_, _<_, _≤_};
 ghost use lib.ListN.{length, take};
 ghost use Rattle.lists.specs.Lists.{overlay, reaches, fallsFrom};
 ghost use Rattle.graph.specs.Graph.{rowsOf};
 ghost use Rattle.graph.specs.File.{fileLength};
 ghost use Rattle.graph.specs.Encode.{encode};
 ghost use Rattle.graph.specs.Write.{writeExit, outcomeOfWrite};
 ghost use Rattle.graph.specs.Write.{malformed as Write·malformed};
-ghost use Rattle.graph.specs.WriteSteps.{WellFormed, indexAfter};
-use crate::steps::outside_sizes;
-use crate::words::element;
-use crate::words::put;
+ghost use Rattle.writer.specs.Steps.{WellFormed, indexAfter};
+use graph::steps::outside_sizes;
+use graph::words::element;
+use graph::words::put;
 
 // 11, then 20; otherwise the bytes of the file, and 0.
 pub fn write(offsets: &[u16], targets: &[u16], file: &mut [u8]) -> usize

@@ -1,4 +1,4 @@
--- `graph::writer::put_heads` meets its contract. The loop's invariant: n, m and the heads of the vertices passed are written. The measure
+-- `writer::put_heads` meets its contract. The loop's invariant: n, m and the heads of the vertices passed are written. The measure
 -- is how many vertices are left.
 use mathlib.Core.Path.{_≡_, ap, _∙_}
 use mathlib.Core.List.{List}
@@ -6,13 +6,13 @@ use Prim.Native.Nat.{ℕ, _+_, _-_, _≤_, _<_, zero-le}
 use native.Mathlib.Omega.{arith}
 use lib.ListN.{length}
 use denote.Ref.{now}
 use Rattle.graph.specs.Graph.{rowsOf}
 use Rattle.graph.specs.Encode.{fileWords, encode}
-use Rattle.graph.proofs.Encoding.{Written, same-index}
-use Rattle.graph.proofs.Storing.{Begun, begun-none, begun-put, begun-count, begun-here, begun-more}
-use Rattle.graph.proofs.WellFormedRows.{written-rows}
-use Rattle.graph.proofs.writer.put_heads.Statement.{statement}
-use Rattle.graph.proofs.writer.put_heads.Tie as tie
+use Rattle.writer.proofs.Encoding.{Written, same-index}
+use Rattle.writer.proofs.Storing.{Begun, begun-none, begun-put, begun-count, begun-here, begun-more}
+use Rattle.writer.proofs.WellFormedRows.{written-rows}
+use Rattle.writer.proofs.put_heads.Statement.{statement}
+use Rattle.writer.proofs.put_heads.Tie as tie
 
 -- the words of the rows' file
 abbrev words : List ℕ → List ℕ → List ℕ

@@ -1,4 +1,4 @@
--- `graph::writer::write` meets its contract: each way out has the number of the tests that led there, and only the last one, behind both
+-- `writer::write` meets its contract: each way out has the number of the tests that led there, and only the last one, behind both
 -- stores, leaves other bytes.
 use mathlib.Core.Bool.{true, false}
 use mathlib.Core.Path.{_≡_, sym, ap, _∙_}
@@ -15,15 +15,15 @@ use Rattle.numbers.specs.Refusals.{first}
 use Rattle.lists.specs.Lists.{overlay}
 use Rattle.lists.proofs.Overlay.{overlay-again, overlay-here}
 use Rattle.lists.proofs.Rows.{length-take-most}
 use Rattle.graph.specs.Graph.{rowsOf}
 use Rattle.graph.specs.File.{fileLength}
 use Rattle.graph.specs.Encode.{encode}
 use Rattle.graph.specs.Write.{rowCount, writeRefusals, writeNumber, writeOutcomeBy, outcomeOfWrite, writeExit}
-use Rattle.graph.specs.WriteSteps.{WellFormed}
+use Rattle.writer.specs.Steps.{WellFormed}
 use Rattle.graph.specs.Write.{malformed as Write·malformed}
-use Rattle.graph.proofs.WellFormedRows.{well-formed}
-use Rattle.graph.proofs.writer.write.Statement.{statement}
-use Rattle.graph.proofs.writer.write.Tie as tie
+use Rattle.writer.proofs.WellFormedRows.{well-formed}
+use Rattle.writer.proofs.write.Statement.{statement}
+use Rattle.writer.proofs.write.Tie as tie
 
 module _ (offsets targets file : List ℕ) where
   -- 11
