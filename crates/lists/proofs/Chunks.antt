@@ -28,7 +28,7 @@ flatten-more {A} l x = flatten-append l (x ∷ []) ∙ ap (λ (rest : List A). f
 
 -- pieces of `size` places each, the last one of at least 1 and at most that many
 pub data Cut (size : ℕ) {A : Type 0} : List (List A) → Type 0 where
-  none : Cut size []
+  no-piece : Cut size []
   last : {piece : List A} → 1 ≤ length piece → length piece ≤ size → Cut size (piece ∷ [])
   more : {piece next : List A} {pieces : List (List A)} → length piece ≡ size → Cut size (next ∷ pieces) → Cut size (piece ∷ next ∷ pieces)
 
@@ -106,9 +106,9 @@ module _ {A : Type 0} (size : ℕ) (some : 1 ≤ size) where
   -- none is empty, and only the last may be short
   cut-in : (count : ℕ) (l : List A) → length l ≤ count → Cut size (chunksIn size count l)
   unfolding chunksIn
-  cut-in zero [] h = none
+  cut-in zero [] h = no-piece
   cut-in zero (x ∷ l) h = absurd (omega arith)
-  cut-in (suc count) [] h = none
+  cut-in (suc count) [] h = no-piece
   cut-in (suc count) (x ∷ l) h =
       let whole : List A = x ∷ l in
       let rest : List A = drop size whole in
@@ -124,8 +124,8 @@ module _ {A : Type 0} (size : ℕ) (some : 1 ≤ size) where
   -- pieces that are cut so are the pieces of what they make up
   chunks-in : (count : ℕ) {pieces : List (List A)} → Cut size pieces → length (flatten pieces) ≤ count → chunksIn size count (flatten pieces) ≡ pieces
   unfolding flatten
-  chunks-in zero none h = chunks-nil size zero
-  chunks-in (suc count) none h = chunks-nil size (suc count)
+  chunks-in zero no-piece h = chunks-nil size zero
+  chunks-in (suc count) no-piece h = chunks-nil size (suc count)
   chunks-in zero (last {piece = piece} a b) h = absurd (omega (arith, length-append piece []))
   chunks-in (suc count) (last {piece = piece} a b) h =
       let whole : piece ++ [] ≡ piece = append-nil piece in
@@ -150,7 +150,7 @@ module _ {A : Type 0} (size : ℕ) (some : 1 ≤ size) where
   pub cut-count : {pieces : List (List A)} → Cut size pieces
       → (length (flatten pieces) ≤ size * length pieces) × (size * length pieces < length (flatten pieces) + size)
   unfolding flatten
-  cut-count none = omega (arith, mul-zero size)
+  cut-count no-piece = omega (arith, mul-zero size)
   cut-count (last {piece = piece} a b) = omega (arith, mul-suc size 0, mul-zero size, length-append piece [])
   cut-count (more {piece = piece} {next = next} {pieces = pieces} e r) =
       let left = cut-count r in
@@ -158,6 +158,6 @@ module _ {A : Type 0} (size : ℕ) (some : 1 ≤ size) where
 
   -- lists of `size` places each are cut so
   pub each-cut : (l : List (List A)) → Each size l → Cut size l
-  each-cut [] h = none
+  each-cut [] h = no-piece
   each-cut (piece ∷ []) h = last {piece = piece} (omega arith) (omega arith)
   each-cut (piece ∷ next ∷ pieces) h = more (h .0) (each-cut (next ∷ pieces) (h .1))

@@ -35,7 +35,7 @@ written = lentLists (0 ∷ 2 ∷ 3 ∷ 4 ∷ 4 ∷ 9 ∷ []) (1 ∷ 2 ∷ 3 ∷ 
 unfoldable pub called : ℕ → List ℕ → List ℕ → ℕ → PageOutcome
 called source distances parents room = outcomeOfPage (bytesOf wordsA) source distances parents nines (replicate room 7)
 
--- all of them: the page at its need, with places behind it, and one place short (20, with rows and marks written); the same survey from device 1; a
+-- all of them: the page at its need, with places behind it, and one place short (20, with rows and marks written); the same file from vertex 1; a
 -- wrong result with a page list that is short too (10 comes first); distances one short (20 as well, and nothing is changed); the page read back
 pub page-cases : (called 0 distancesA parentsA 105 ≡ pageExit 0 written pageA)
     × (called 0 distancesA parentsA 107 ≡ pageExit 0 written (pageA ++ 7 ∷ 7 ∷ []))

@@ -1,13 +1,13 @@
 -- What is said of the pages besides their bytes, from the definitions: which pages there are, how long they are, and what a refusal leaves.
 use mathlib.Core.Path.{_≡_, refl, ap, _∙_}
-use mathlib.Core.List.{List, [], map}
+use mathlib.Core.List.{List, [], map, flatten}
 use Prim.Native.Nat.{ℕ, _<_}
 use native.Mathlib.Omega.{arith}
 use lib.ListN.{length, getD, drop}
 use borrow.Author.Tests.{ne-eqb}
 use Rattle.numbers.specs.Numbers.{success, badResult, shortList}
 use Rattle.lists.specs.Lists.{numbersFrom, elem, chunks}
-use Rattle.lists.proofs.Chunks.{Cut, chunks-cut}
+use Rattle.lists.proofs.Chunks.{Cut, chunks-cut, flatten-chunks}
 use Rattle.graph.specs.File.{vertexCount}
 use Rattle.graph.specs.Read.{clearsMarks}
 use Rattle.verify.specs.Check.{CheckLent, checkNumber, judges, lentAfterCheck, outcomeOfCheck}
@@ -19,7 +19,14 @@ use Rattle.page.proofs.CallFacts.{number-stopped, number-short}
 
 -- Pages.
 
--- "none is without a device and only the final one may be short": behind its line one a page has 50 vertices' lines, the last page 1 to 50
+-- "Then come up to 50 device lines in device order": behind the lines one, all pages together have the vertices' lines and no other, so none is padded
+pub pages-lines : (n : ℕ) (distances parents : List ℕ) → flatten (map (drop 1) (pages n distances parents)) ≡ linesByVertex n distances parents
+unfolding pages
+pages-lines n distances parents =
+    let lines = linesByVertex n distances parents in
+    ap flatten (headed-others 1 (chunks pageVertices lines)) ∙ flatten-chunks pageVertices (omega arith) lines
+
+-- "none is without a device and only the final one may be short": behind its line one a page has 50 of them, the last page 1 to 50
 pub pages-cut : (n : ℕ) (distances parents : List ℕ) → Cut pageVertices (map (drop 1) (pages n distances parents))
 unfolding pages
 pages-cut n distances parents =

@@ -13,7 +13,7 @@ use lib.Seq.{ext-getD, getD-take, length-take-le}
 use borrow.Author.Tests.{eqb-true}
 use Rattle.numbers.specs.Numbers.{maxVertices, unset, success}
 use Rattle.lists.specs.Lists.{numbersFrom, chunks}
-use Rattle.lists.proofs.Chunks.{Cut, none, last, more, flatten-chunks, chunks-cut, chunks-flatten, cut-count, Each, each-cut, each-append, each-split, length-each}
+use Rattle.lists.proofs.Chunks.{Cut, no-piece, last, more, flatten-chunks, chunks-cut, chunks-flatten, cut-count, Each, each-cut, each-append, each-split, length-each}
 use Rattle.lists.proofs.Replaced.{map-at}
 use Rattle.lists.proofs.Tests.{length-range, getD-range}
 use Rattle.graph.specs.File.{vertexCount}
@@ -59,7 +59,7 @@ headed-others number (page ∷ rest) = ap (λ (l : List (List (List ℕ))). page
 -- each has one line more
 headed-cut : (number : ℕ) {pieces : List (List (List ℕ))} → Cut 50 pieces → Cut 51 (headed number pieces)
 unfolding headed
-headed-cut number none = none
+headed-cut number no-piece = no-piece
 headed-cut number (last {piece = piece} a b) = last {piece = headLine number ∷ piece} (omega arith) (omega arith)
 headed-cut number (more {piece = piece} e r) = more {piece = headLine number ∷ piece} (omega arith) (headed-cut (suc number) r)
 
@@ -120,7 +120,8 @@ module _ (n : ℕ) (distances parents : List ℕ) (few : n ≤ maxVertices) (far
   count-pages = count-pieces n distances parents
 
   -- every line of them has 21 bytes
-  each-page : Each lineBytes (flatten (headed 1 pieces))
+  each-page : Each lineBytes (flatten (pages n distances parents))
+  unfolding pages
   each-page = headed-each 1 pieces (omega (arith, count-pages)) (rw (flatten-chunks 50 (omega arith) lines) each-line)
 
   -- all bytes
@@ -219,7 +220,11 @@ module _ (file : List ℕ) (source : ℕ) (distances parents : List ℕ) (few : 
   parents-small v h = word-small (vertexCount file) (getD parents v 0) few (λ k e.
       omega (arith, parent-vertex r v k (label-word parents v up h ∙ e), length-graph file))
 
-  -- the pages of a right result have as many bytes as said
+  -- every line of the pages of a right result has 21 bytes
+  right-each : Each lineBytes (flatten (pages (vertexCount file) distances parents))
+  right-each = each-page (vertexCount file) distances parents few far up distances-small parents-small
+
+  -- the pages have as many bytes as said
   right-length : length (pageText (vertexCount file) distances parents) ≡ pageNeed (vertexCount file)
   right-length = length-pages (vertexCount file) distances parents few far up distances-small parents-small
 
@@ -236,6 +241,12 @@ module _ (file : List ℕ) (source : ℕ) (distances parents : List ℕ) (lent :
   -- n is within its size
   pub accepted-few : vertexCount file ≤ maxVertices
   accepted-few = passed-sized file source distances parents lent (accepted .0) .fewVertices
+
+  -- "lines of exactly 20 characters and a line feed"
+  pub accepted-each : Each lineBytes (flatten (pages (vertexCount file) distances parents))
+  accepted-each =
+      right-each file source distances parents accepted-few (passed-distances file source distances parents lent (accepted .0))
+      (passed-parents file source distances parents lent (accepted .0)) (accepted .1)
 
   -- their pages have as many bytes as said
   pub accepted-length : length (pageText (vertexCount file) distances parents) ≡ pageNeed (vertexCount file)

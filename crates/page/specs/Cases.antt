@@ -1,4 +1,4 @@
--- Case A on paper: its result, its page, and the page of the same survey from device 1.
+-- Case A on paper: its result, its page, and the page of the same file from vertex 1.
 use mathlib.Core.List.{List, [], _∷_, _++_}
 use Prim.Native.Nat.{ℕ}
 use lib.ListN.{replicate}
@@ -26,6 +26,6 @@ headA = 72 ∷ 79 ∷ 80 ∷ 83 ∷ 32 ∷ 112 ∷ 97 ∷ 103 ∷ 101 ∷ blanks
 abbrev pub pageA : List ℕ
 pageA = headA ++ lineA 48 48 48 ++ lineA 49 49 48 ++ lineA 50 49 48 ++ lineA 51 50 49
 
--- the same survey from device 1: `0 - -`, `1 0 1`, `2 - -`, `3 1 1`
+-- the same file from vertex 1: `0 - -`, `1 0 1`, `2 - -`, `3 1 1`
 abbrev pub pageOne : List ℕ
 pageOne = headA ++ lineA 48 45 45 ++ lineA 49 48 49 ++ lineA 50 45 45 ++ lineA 51 49 49

@@ -110,7 +110,7 @@ fn call_large(
     let mut offsets = [OFFSETS; 4102];
     let mut targets = [TARGETS; 32773];
     let mut marks = [MARKS; 32773];
-    let mut bytes = [BLANK; 87750];
+    let mut bytes = [BLANK; 87770];
     call_in(
         file,
         query,

@@ -24,14 +24,14 @@ pub const LARGE: u16 = 3;
 
 // How many cases they have: each size as a path, drawn and without edges, with each of four page
 // lists; each result with each of three page lists; each combination with each of three; three sizes
-// with each of two.
+// with each of three.
 pub const SIZE_CASES: u16 = 192;
 
 pub const RESULT_CASES: u16 = 1800;
 
 pub const LENGTH_CASES: u16 = 729;
 
-pub const LARGE_CASES: u16 = 6;
+pub const LARGE_CASES: u16 = 9;
 
 // Numbers of vertices around the ends of pages and around those of the columns' figures.
 const VERTICES: [u16; 16] = [
@@ -58,7 +58,7 @@ pub fn is_path(group: u16, case: u16) -> bool {
     (group == SIZES) & (case / 4 % 3 == 0)
 }
 
-// A path, a drawn graph with up to eight edges for each vertex, or no edges.
+// A path, a drawn graph with eight times as many edges as vertices, or no edges.
 fn edges(vertices: u16, choice: u16) -> u16 {
     if choice == 0 {
         return std::num::wrapping_sub_u16(vertices, 1);
@@ -92,7 +92,7 @@ pub fn plan_of(group: u16, case: u16) -> Plan {
     if group == LENGTHS {
         return sized(107, 301);
     }
-    large(case / 2)
+    large(case / 3)
 }
 
 // The kind of a case's result.

@@ -65,7 +65,7 @@ fn square(name: &[u8], source: u16, distances: &[u16], parents: &[u16]) {
     show(name, plan, &file, distances, parents);
 }
 
-// A path of so many edges, up to 60.
+// A path of so many edges, up to 59.
 fn path(name: &[u8], edges: u16) {
     let mut file = [0u8; 370];
     let mut sources = [0u16; 60];

@@ -10,7 +10,7 @@ use checkkit::results::UNSET;
 use checkkit::results::make_judged;
 use testkit::sample::file_length;
 
-// A result of each kind for each of so many graphs.
+// So many graphs, each with a result of the next kind.
 pub const CASES: u16 = 600;
 
 // What is drawn for a case: the graph, how many edges of it are a path, the kind of result, how many

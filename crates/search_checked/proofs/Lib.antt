@@ -1,2 +1,2 @@
--- The result of a search passes the checker.
+-- The result of a search passes the checker and is laid out on pages.
 pub mod Theorem

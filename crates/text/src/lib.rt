@@ -17,7 +17,7 @@ pub const LINE_FEED: u8 = 10;
 pub const UNALIGNED: usize = 0;
 
 // One byte.
-pub fn put_byte(output: &mut [u8], at: usize, byte: u8) -> usize
+fn put_byte(output: &mut [u8], at: usize, byte: u8) -> usize
     requires { ⌜ at < length (now output) ⌝ }
     ensures { λ r. ⌜ r ≡ at + 1 ⌝ }
     ensures { λ r. ⌜ Prints (byte ∷ []) (now (output .entry)) at (now (output .exit)) r ⌝ }
