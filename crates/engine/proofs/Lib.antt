@@ -1,5 +1,4 @@
 -- Facts of the engine.
-pub mod OpenFacts
 pub mod PlayingFacts
 pub mod StartFacts
 pub mod WorkFacts

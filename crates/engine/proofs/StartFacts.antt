@@ -16,7 +16,8 @@ use Rattle.model.specs.Play.{playFrom, play}
 use Rattle.workers.specs.declared.Worker.{Worker}
 use Rattle.workers.specs.Shown.{stateOf}
 use Rattle.workers.specs.Steps.{Fits, openedCrew}
-use Rattle.engine.specs.Runs.{FirstLayer, Runnable}
+use Rattle.opening.specs.Opening.{FirstLayer}
+use Rattle.engine.specs.Runs.{Runnable}
 use Rattle.workers.proofs.CrewFacts.{opened-workers, opened-pool, opened-whole, opened-free}
 use Rattle.engine.proofs.PlayingFacts.{SameLengths, runnable-still, Playing}
 

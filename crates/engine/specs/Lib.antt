@@ -1,2 +1,2 @@
--- The engine of a search: what opening and run hand to one another.
+-- The engine of a search: what its run takes for granted and promises.
 pub mod Runs

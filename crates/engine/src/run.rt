@@ -1,15 +1,12 @@
 // The run of a schedule: the opening, then event after event up to the finishing one or to the end.
 ghost use mathlib.Core.Path.{_≡_};
 ghost use mathlib.Core.Bool.{cond};
-ghost use Prim.Native.Nat.{_<_, _≤_};
-ghost use lib.ListN.{length, set, replicate};
-ghost use Rattle.numbers.specs.Numbers.{unset};
+ghost use Prim.Native.Nat.{_≤_};
 ghost use Rattle.graph.specs.Graph.{rowsOf};
 ghost use Rattle.model.specs.Play.{play};
-ghost use Rattle.engine.specs.Runs.{Sized, FirstLayer, answerOf, Runnable, Ran};
+ghost use Rattle.engine.specs.Runs.{answerOf, Runnable, Ran};
 use crate::Answer;
-use bag::Bag;
-use lists::put;
+use opening::open;
 use schedule::Event;
 use workers::all_idle;
 use workers::gather;
@@ -17,39 +14,6 @@ use workers::opened;
 use workers::split;
 use workers::unite;
 use workers::work;
-
-// "The source starts with distance 0, itself as parent, alone in worker 0's input bag .. All else is
-// unset". Gives the bag.
-fn open(
-    source: u16,
-    workers: usize,
-    distances: &mut [u16],
-    parents: &mut [u16],
-    left: &mut [u16],
-    right: &mut [u16],
-    number: &mut [u16],
-) -> Bag
-    requires { ⌜ source < length (now distances) ⌝ }
-    requires { ⌜ Sized workers (now distances) (now parents) (now left) (now right) (now number) ⌝ }
-    ensures { λ r. ⌜ FirstLayer workers source (now (distances .entry)) (now (distances .exit)) (now (parents .exit)) (now (left .exit)) (now (right .exit)) (now (number .exit)) (r .slots) ⌝ }
-{
-    label(source, distances, parents);
-    bag::pool(left, workers * distances.len());
-    bag::insert(bag::empty(), source, left, right, number)
-}
-
-// The labels of the opening.
-fn label(source: u16, distances: &mut [u16], parents: &mut [u16])
-    requires { ⌜ source < length (now distances) ⌝ }
-    requires { ⌜ length (now parents) ≡ length (now distances) ⌝ }
-    ensures { λ _. ⌜ now (distances .exit) ≡ set (replicate (length (now (distances .entry))) unset) source 0 ⌝ }
-    ensures { λ _. ⌜ now (parents .exit) ≡ set (replicate (length (now (distances .entry))) unset) source source ⌝ }
-{
-    lists::fill(distances, distances.len(), numbers::UNSET);
-    lists::fill(parents, parents.len(), numbers::UNSET);
-    put(distances, source, 0);
-    put(parents, source, source);
-}
 
 // 1 for an event whose condition was met.
 fn count(met: bool) -> usize

@@ -1,10 +1,10 @@
--- `engine::run::open` meets its contract: the labels, the new pool, and the source in the bag.
+-- `opening::open` meets its contract: the labels, the new pool, and the source in the bag.
 use borrow.Author.Needs.{needs}
 use native.Mathlib.Omega.{arith}
 use lib.ListN.{length}
-use Rattle.engine.proofs.OpenFacts.{nodes-word, nodes-room, new-pool, new-room, new-opened}
-use Rattle.engine.proofs.run.open.Statement.{statement}
-use Rattle.engine.proofs.run.open.Tie as tie
+use Rattle.opening.proofs.OpenFacts.{nodes-word, nodes-room, new-pool, new-room, new-opened}
+use Rattle.opening.proofs.open.Statement.{statement}
+use Rattle.opening.proofs.open.Tie as tie
 
 label-requires : tie.Need-label-requires
 label-requires c κs = search needs

@@ -1,10 +1,10 @@
--- `engine::run::label` meets its contract: both lists filled with the word for unset, then the source written.
+-- `opening::label` meets its contract: both lists filled with the word for unset, then the source written.
 use borrow.Author.Needs.{needs}
 use mathlib.Core.Path.{refl}
 use lib.ListN.{length}
-use Rattle.engine.proofs.OpenFacts.{labelled}
-use Rattle.engine.proofs.run.label.Statement.{statement}
-use Rattle.engine.proofs.run.label.Tie as tie
+use Rattle.opening.proofs.OpenFacts.{labelled}
+use Rattle.opening.proofs.label.Statement.{statement}
+use Rattle.opening.proofs.label.Tie as tie
 
 fill-requires : tie.Need-fill-requires
 fill-requires c κs = search needs

@@ -20,7 +20,7 @@ use Rattle.bag.proofs.HeldFacts.{held-none}
 use Rattle.model.specs.State.{openingLabels}
 use Rattle.model.specs.Call.{nodePlaces}
 use Rattle.model.specs.Words.{optionOf, labelsOf}
-use Rattle.engine.specs.Runs.{Sized, FirstLayer}
+use Rattle.opening.specs.Opening.{Sized, FirstLayer}
 use Rattle.model.proofs.WordFacts.{word-set, word-unset}
 
 -- The labels.

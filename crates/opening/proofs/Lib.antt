@@ -1,0 +1,2 @@
+-- Facts of the opening.
+pub mod OpenFacts

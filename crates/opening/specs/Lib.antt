@@ -1,0 +1,2 @@
+-- The opening of a search.
+pub mod Opening
