@@ -16,4 +16,3 @@ pub mod FillFacts
 pub mod ReadFacts
 pub mod EarlyFacts
 pub mod UnchainFacts
-pub mod InView

@@ -1,4 +1,4 @@
-// Runs `writer::write`, alone and back through `graph::read`, and the view `graph::links`, and writes
+// Runs `writer::write`, alone and back through `graph::read`, and the view `view::links`, and writes
 // a line for each group: how many cases it had, and how many went wrong.
 mod damage;
 mod drawn;
@@ -6,7 +6,7 @@ mod lengths;
 mod refusals;
 mod sizes;
 mod trips;
-mod view;
+mod views;
 mod writing;
 
 fn main() {
@@ -15,5 +15,5 @@ fn main() {
     lengths::run();
     damage::run();
     trips::run();
-    view::run();
+    views::run();
 }

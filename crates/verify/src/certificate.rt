@@ -71,7 +71,7 @@ fn parent_wrong(
     if parent_distance + 1 != distance {
         return true;
     }
-    if has_edge(graph::links(offsets, targets, parent), vertex) {
+    if has_edge(view::links(offsets, targets, parent), vertex) {
         return false;
     }
     true
@@ -98,7 +98,7 @@ fn vertex_wrong(
         return vertex == source || parent != WIDE_UNSET;
     }
     if any_beyond(
-        graph::links(offsets, targets, vertex),
+        view::links(offsets, targets, vertex),
         distances,
         distance + 1,
     ) {

@@ -1,11 +1,11 @@
--- `graph::view::links` meets its contract: with 11 the part is empty, and otherwise what the view's test ruled out says that both
+-- `view::links` meets its contract: with 11 the part is empty, and otherwise what the view's test ruled out says that both
 -- offsets are there, in order and within the targets.
 use borrow.Author.Needs.{needs}
 use native.Mathlib.Omega.{arith}
 use denote.Ref.{now}
-use Rattle.graph.proofs.InView.{InView, no-part, in-view, part-between}
-use Rattle.graph.proofs.view.links.Statement.{statement}
-use Rattle.graph.proofs.view.links.Tie as tie
+use Rattle.view.proofs.InView.{InView, no-part, in-view, part-between}
+use Rattle.view.proofs.links.Statement.{statement}
+use Rattle.view.proofs.links.Tie as tie
 
 links-number-requires : tie.Need-links-number-requires
 links-number-requires c κs = search needs

@@ -1,10 +1,10 @@
--- `runs_write::view::scatter` is safe and ends. The loop counts up to the list's length, which no turn changes; the measure is what is left of it.
+-- `runs_write::views::scatter` is safe and ends. The loop counts up to the list's length, which no turn changes; the measure is what is left of it.
 use Prim.Native.Nat.{_-_}
 use mathlib.Core.Path.{_≡_}
 use lib.ListN.{length}
 use borrow.Author.Needs.{needs}
-use Rattle.runs_write.proofs.view.scatter.Statement.{statement}
-use Rattle.runs_write.proofs.view.scatter.Tie as tie
+use Rattle.runs_write.proofs.views.scatter.Statement.{statement}
+use Rattle.runs_write.proofs.views.scatter.Tie as tie
 
 abbrev Inv-loop : tie.InvT-loop
 Inv-loop list₀ bound seed state₀ i₀ list state i = length list ≡ length list₀

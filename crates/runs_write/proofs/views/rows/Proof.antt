@@ -1,8 +1,8 @@
--- `runs_write::view::rows` is safe and ends. The loop counts up; the measure is how many vertices are left.
+-- `runs_write::views::rows` is safe and ends. The loop counts up; the measure is how many vertices are left.
 use Prim.Native.Nat.{_≤_, _-_}
 use borrow.Author.Needs.{needs}
-use Rattle.runs_write.proofs.view.rows.Statement.{statement}
-use Rattle.runs_write.proofs.view.rows.Tie as tie
+use Rattle.runs_write.proofs.views.rows.Statement.{statement}
+use Rattle.runs_write.proofs.views.rows.Tie as tie
 
 abbrev Inv-loop : tie.InvT-loop
 Inv-loop offsets targets sources vertices edges tally₀ vertex₀ tally vertex = vertex ≤ vertices

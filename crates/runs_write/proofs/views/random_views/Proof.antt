@@ -1,8 +1,8 @@
--- `runs_write::view::random_views` is safe and ends. The loop counts up; the measure is how many rounds are left.
+-- `runs_write::views::random_views` is safe and ends. The loop counts up; the measure is how many rounds are left.
 use Prim.Native.Nat.{_≤_, _-_}
 use borrow.Author.Needs.{needs}
-use Rattle.runs_write.proofs.view.random_views.Statement.{statement}
-use Rattle.runs_write.proofs.view.random_views.Tie as tie
+use Rattle.runs_write.proofs.views.random_views.Statement.{statement}
+use Rattle.runs_write.proofs.views.random_views.Tie as tie
 
 abbrev Inv-loop : tie.InvT-loop
 Inv-loop tally₀ state₀ round₀ tally state round = round ≤ 3000

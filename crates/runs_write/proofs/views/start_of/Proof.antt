@@ -1,8 +1,8 @@
--- `runs_write::view::start_of` is safe and ends. The loop counts up; the measure is how many edges are left.
+-- `runs_write::views::start_of` is safe and ends. The loop counts up; the measure is how many edges are left.
 use Prim.Native.Nat.{_≤_, _-_}
 use borrow.Author.Needs.{needs}
-use Rattle.runs_write.proofs.view.start_of.Statement.{statement}
-use Rattle.runs_write.proofs.view.start_of.Tie as tie
+use Rattle.runs_write.proofs.views.start_of.Statement.{statement}
+use Rattle.runs_write.proofs.views.start_of.Tie as tie
 
 abbrev Inv-loop : tie.InvT-loop
 Inv-loop sources vertex edges start₀ edge₀ start edge = edge ≤ edges

@@ -1,9 +1,9 @@
--- `runs_write::view::is_part` is safe and ends. Nothing has to hold from turn to turn; the measure is what is left of the part.
+-- `runs_write::views::is_part` is safe and ends. Nothing has to hold from turn to turn; the measure is what is left of the part.
 use Prim.Native.Nat.{_-_}
 use lib.ListN.{length}
 use borrow.Author.Needs.{needs}
-use Rattle.runs_write.proofs.view.is_part.Statement.{statement}
-use Rattle.runs_write.proofs.view.is_part.Tie as tie
+use Rattle.runs_write.proofs.views.is_part.Statement.{statement}
+use Rattle.runs_write.proofs.views.is_part.Tie as tie
 
 abbrev Inv-loop : tie.InvT-loop
 Inv-loop part whole start i₀ i = Unit {0}

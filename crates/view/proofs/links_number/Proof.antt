@@ -1,12 +1,12 @@
--- `graph::view::links_number` meets its contract: each way out rewrites the view's test with the tests that led there.
+-- `view::links_number` meets its contract: each way out rewrites the view's test with the tests that led there.
 --
 use borrow.Author.Needs.{needs}
 use borrow.Author.Tests.{lt-ltb, le-ltb}
 use Rattle.numbers.specs.Refusals.{first}
 use Rattle.graph.specs.Links.{outOfView, linksNumber}
-use Rattle.graph.proofs.InView.{number-falls, number-passes, number-success}
-use Rattle.graph.proofs.view.links_number.Statement.{statement}
-use Rattle.graph.proofs.view.links_number.Tie as tie
+use Rattle.view.proofs.InView.{number-falls, number-passes, number-success}
+use Rattle.view.proofs.links_number.Statement.{statement}
+use Rattle.view.proofs.links_number.Tie as tie
 
 returns : tie.Need-returns
 unfolding linksNumber outOfView first

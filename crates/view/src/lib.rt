@@ -1,7 +1,8 @@
-// One vertex's edges, as a part of the caller's own targets.
+// The view of one vertex's edges, as a part of the caller's own targets. Both functions are outside
+// calls; they assume nothing.
 ghost use mathlib.Core.Path.{_≡_};
 ghost use Rattle.graph.specs.Links.{linksOf, linksNumber};
-use crate::words::element;
+use graph::words::element;
 
 // The part of the targets that belongs to the vertex; an empty part where 11 holds.
 pub fn links<'a, 'b>(offsets: &'b [u16], targets: &'a [u16], vertex: usize) -> &'a [u16]

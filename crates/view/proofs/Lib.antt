@@ -1,0 +1,2 @@
+-- What the proofs of the view go by.
+pub mod InView
