@@ -93,12 +93,18 @@ module _ (left right : List ℕ) (k : ℕ) where
   unfolding sumOf
   pair-yz x y z p = record { wide = p .wide; apart = λ i. omega (arith, p .apart i) }
 
+  -- where there is nothing to add, the slot and the lists stay and nothing is carried
+  pub add-nothing : (x : ℕ) → Added left right k x 0 0 left right x 0
+  unfolding pennantAt adderSum adderCarry
+  add-nothing zero = record { sum = refl; carried = refl; kept-left = λ i c. refl; kept-right = λ i c. refl }
+  add-nothing (suc x) = record { sum = refl; carried = refl; kept-left = λ i c. refl; kept-right = λ i c. refl }
+
   -- each row of the table is 000's
   pub add-rows : (x y z : ℕ) → Pennants left right k (x ∷ y ∷ z ∷ [])
       → Added left right k x y z (linkedLeft (columnOf 1 x y z) (columnOf 2 x y z) left) (linkedRight (columnOf 1 x y z) (columnOf 2 x y z) left right) (columnOf 0 x y z) (columnOf 1 x y z)
   unfolding present rowOf linkedLeft linkedRight pennantAt adderSum adderCarry sumOf
-  add-rows zero zero zero p = record { sum = refl; carried = refl; kept-left = λ i c. refl; kept-right = λ i c. refl }
-  add-rows (suc x) zero zero p = record { sum = refl; carried = refl; kept-left = λ i c. refl; kept-right = λ i c. refl }
+  add-rows zero zero zero p = add-nothing zero
+  add-rows (suc x) zero zero p = add-nothing (suc x)
   add-rows zero (suc y) zero p = record { sum = refl; carried = refl; kept-left = λ i c. refl; kept-right = λ i c. refl }
   add-rows zero zero (suc z) p = record { sum = refl; carried = refl; kept-left = λ i c. refl; kept-right = λ i c. refl }
   add-rows (suc x) (suc y) zero p = record {

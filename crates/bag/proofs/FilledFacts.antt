@@ -1,18 +1,16 @@
--- The first filled slot: how the search for it goes on, and what it says of the bag.
-use Prim.Native.Nat.{ℕ, zero, suc, _+_, _-_, _≤_, _<_}
+-- Filled slots: whether there are any from slot k on, which of them is the first, and what the bag is then.
+use Prim.Native.Nat.{ℕ, zero, suc, _+_, _≤_, _<_}
 use native.Mathlib.Omega.{arith}
 use native.Mathlib.Nat.{zero-add}
 use native.Mathlib.Numerals.{add-one}
 use mathlib.Core.Path.{_≡_, refl, sym, ap, _∙_}
-use mathlib.Core.Bool.{Bool, true, false, not, true≢false}
+use mathlib.Core.Bool.{Bool, true, false, not, _&&_, and-true, and-false, true≢false}
 use mathlib.Core.List.{List, [], _∷_}
-use lib.Dec.{eqb, ltb}
-use lib.ListN.{length, getD, drop, length-drop, drop-of-length-le}
+use lib.ListN.{length, getD, drop, drop-of-length-le}
 use lib.Seq.{drop-cons}
-use borrow.Author.Tests.{eqb-true, eqb-false, eq-eqb, ne-eqb, lt-ltb, le-ltb}
 use Rattle.pennant.specs.Pennant.{Slot, gap, tip}
-use Rattle.pennant.specs.Bag.{isEmpty, atLeastTwo, spread, takeFrom, takenNumber}
-use Rattle.bag.specs.Nodes.{treeAt, pennantAt, slotsFrom, nodesOf}
+use Rattle.pennant.specs.Bag.{Bag, isEmpty, atLeastTwo, spread, takeFrom, takenNumber}
+use Rattle.bag.specs.Nodes.{treeAt, pennantAt, nodesOf}
 use Rattle.bag.specs.Steps.{firstFilled}
 use Rattle.bag.proofs.Kept.{length-nodes, nodes-at}
 use Rattle.bag.proofs.Pairs.{pennant-some}
@@ -42,47 +40,53 @@ module _ (slots : List ℕ) (k : ℕ) where
   pub filled-pass : k < length slots → getD slots k 0 ≡ 0 → firstFilled k (drop k slots) ≡ firstFilled (k + 1) (drop (k + 1) slots)
   filled-pass h e = rw (add-one k) (filled-next h e)
 
--- past the end nothing is found
-pub filled-none : (slots : List ℕ) (k : ℕ) → length slots ≤ k → firstFilled k (drop k slots) ≡ k
+-- nothing is found before the search starts
+pub filled-from : (k : ℕ) (xs : List ℕ) → k ≤ firstFilled k xs
 unfolding firstFilled
-filled-none slots k h = go (drop k slots) (length-drop k slots)
-  where
-    go : (xs : List ℕ) → length xs ≡ length slots - k → firstFilled k xs ≡ k
-    go [] e = refl
-    go (x ∷ xs) e = absurd (omega arith)
+filled-from k [] = omega arith
+filled-from k (zero ∷ xs) = omega (arith, filled-from (suc k) xs)
+filled-from k (suc x ∷ xs) = omega arith
+
+-- two or more are held where something is held past slot 0
+pub two-past : (s : Bag) → not (isEmpty (drop 1 s)) ≡ atLeastTwo s
+unfolding isEmpty atLeastTwo
+two-past [] = refl
+two-past (x ∷ s) = refl
+
+module _ (left right slots : List ℕ) (k : ℕ) where
+  -- past the last slot the bag is empty
+  nodes-end : length slots ≤ k → isEmpty (drop k (nodesOf left right slots)) ≡ true
+  unfolding isEmpty
+  nodes-end h = ap isEmpty (drop-of-length-le (nodesOf left right slots) {i = k} (rw (length-nodes left right slots) h))
+
+  -- so no more is to be looked at
+  pub none-end : (none : Bool) → length slots ≤ k → none && isEmpty (drop k (nodesOf left right slots)) ≡ none
+  none-end none h = rw (nodes-end h) (and-true none)
+
+  module _ (h : k < length slots) where
+    slot-next : drop k (nodesOf left right slots) ≡ pennantAt left right k (getD slots k 0) ∷ drop (suc k) (nodesOf left right slots)
+    slot-next = drop-cons (nodesOf left right slots) k gap (rw (length-nodes left right slots) h) ∙ ap (λ (x : Slot). x ∷ drop (suc k) (nodesOf left right slots)) (nodes-at left right slots k)
+
+    -- an empty slot before the others
+    slot-empty : getD slots k 0 ≡ 0 → drop k (nodesOf left right slots) ≡ gap ∷ drop (suc k) (nodesOf left right slots)
+    slot-empty e = slot-next ∙ ap (λ (x : Slot). x ∷ drop (suc k) (nodesOf left right slots)) (none-gap left right k (getD slots k 0) e)
+
+    -- a filled one
+    slot-filled : (getD slots k 0 ≡ 0 → ⊥)
+        → drop k (nodesOf left right slots) ≡ tip (getD slots k 0) (treeAt left right k (getD left (getD slots k 0) 0)) ∷ drop (suc k) (nodesOf left right slots)
+    slot-filled f = slot-next ∙ ap (λ (x : Slot). x ∷ drop (suc k) (nodesOf left right slots)) (pennant-some left right k (getD slots k 0) f)
+
+    -- an empty slot is passed
+    pub none-pass : (none : Bool) → getD slots k 0 ≡ 0 → none && isEmpty (drop k (nodesOf left right slots)) ≡ none && isEmpty (drop (k + 1) (nodesOf left right slots))
+    unfolding isEmpty
+    none-pass none e = rw (slot-empty e, add-one k)
+
+    -- a filled one decides
+    pub none-filled : (none : Bool) → (getD slots k 0 ≡ 0 → ⊥) → none && isEmpty (drop k (nodesOf left right slots)) ≡ false
+    unfolding isEmpty
+    none-filled none f = rw (slot-filled f) (and-false none)
 
 module _ (left right : List ℕ) where
-  -- slots from k on are empty where nothing is found
-  empty-from : (k : ℕ) (xs : List ℕ) → (firstFilled k xs ≤ k + length xs) × (isEmpty (slotsFrom left right k xs) ≡ eqb (firstFilled k xs) (k + length xs)) × (k ≤ firstFilled k xs)
-  unfolding firstFilled slotsFrom isEmpty pennantAt
-  empty-from k [] = (omega arith, sym (eq-eqb k (k + 0) (omega arith)), omega arith)
-  empty-from k (zero ∷ xs) =
-      let r = empty-from (suc k) xs in
-      let e : suc k + length xs ≡ k + suc (length xs) = omega arith in
-      (omega (arith, r .0), r .1 ∙ ap (λ (n : ℕ). eqb (firstFilled (suc k) xs) n) e, omega (arith, r .2))
-  empty-from k (suc x ∷ xs) = (omega arith, sym (ne-eqb k (k + suc (length xs)) (λ e. omega arith)), omega arith)
-
-  module _ (slots : List ℕ) where
-    -- the bag is empty where nothing is found
-    pub empty-found : length slots ≡ 16 → eqb (firstFilled 0 slots) 16 ≡ isEmpty (nodesOf left right slots)
-    unfolding nodesOf
-    empty-found l = sym (empty-from 0 slots .1 ∙ ap (λ (n : ℕ). eqb (firstFilled 0 slots) n) (omega (arith, l)))
-
-  -- two or more are held where something is found past slot 0
-  pub two-found : (slots : List ℕ) → length slots ≡ 16 → ltb (firstFilled 1 (drop 1 slots)) 16 ≡ atLeastTwo (nodesOf left right slots)
-  unfolding nodesOf slotsFrom atLeastTwo
-  two-found [] l = absurd (omega arith)
-  two-found (x ∷ xs) l = go (eqb (firstFilled 1 xs) (1 + length xs)) refl
-    where
-      r : (firstFilled 1 xs ≤ 1 + length xs) × (isEmpty (slotsFrom left right 1 xs) ≡ eqb (firstFilled 1 xs) (1 + length xs)) × (1 ≤ firstFilled 1 xs)
-      r = empty-from 1 xs
-
-      go : (b : Bool) → eqb (firstFilled 1 xs) (1 + length xs) ≡ b → ltb (firstFilled 1 xs) 16 ≡ not (isEmpty (slotsFrom left right 1 xs))
-      go true e = le-ltb (firstFilled 1 xs) 16 (omega (arith, eqb-true (firstFilled 1 xs) (1 + length xs) e)) ∙ sym (ap not (r .1 ∙ e))
-      go false e =
-          let short : firstFilled 1 xs ≡ 1 + length xs → ⊥ = eqb-false (firstFilled 1 xs) (1 + length xs) e in
-          lt-ltb (firstFilled 1 xs) 16 (omega (arith, r .0)) ∙ sym (ap not (r .1 ∙ e))
-
   -- the lowest filled slot r of those from k on
   pub record Lowest (slots : List ℕ) (k r : ℕ) : Type 0 where
     pub within : r < length slots
@@ -92,19 +96,15 @@ module _ (left right : List ℕ) where
 
   lowest-from : (slots : List ℕ) (n k : ℕ) → k + n ≡ length slots → isEmpty (drop k (nodesOf left right slots)) ≡ false → Lowest slots k (firstFilled k (drop k slots))
   unfolding isEmpty takeFrom takenNumber
-  lowest-from slots zero k e f = absurd (true≢false (ap isEmpty (sym (drop-of-length-le (nodesOf left right slots) {i = k} (rw (length-nodes left right slots) (omega arith)))) ∙ f))
+  lowest-from slots zero k e f = absurd (true≢false (sym (nodes-end left right slots k (omega arith)) ∙ f))
   lowest-from slots (suc n) k e f = go (lowest-from slots n (suc k) (omega arith)) (getD slots k 0) refl
     where
       within : k < length slots
       within = omega arith
 
-      next : drop k (nodesOf left right slots) ≡ pennantAt left right k (getD slots k 0) ∷ drop (suc k) (nodesOf left right slots)
-      next = drop-cons (nodesOf left right slots) k gap (rw (length-nodes left right slots) within) ∙ ap (λ (x : Slot). x ∷ drop (suc k) (nodesOf left right slots)) (nodes-at left right slots k)
-
       go : (isEmpty (drop (suc k) (nodesOf left right slots)) ≡ false → Lowest slots (suc k) (firstFilled (suc k) (drop (suc k) slots))) → (x : ℕ) → getD slots k 0 ≡ x → Lowest slots k (firstFilled k (drop k slots))
       go lower zero q =
-          let gone : drop k (nodesOf left right slots) ≡ gap ∷ drop (suc k) (nodesOf left right slots) =
-          next ∙ ap (λ (x : Slot). x ∷ drop (suc k) (nodesOf left right slots)) (none-gap left right k (getD slots k 0) q) in
+          let gone = slot-empty left right slots k within q in
           let after : Lowest slots (suc k) (firstFilled (suc k) (drop (suc k) slots)) = lower (rw gone at f) in
           let found : firstFilled k (drop k slots) ≡ firstFilled (suc k) (drop (suc k) slots) = filled-next slots k within q in
           rw found (record {
@@ -115,8 +115,7 @@ module _ (left right : List ℕ) where
           })
       go lower (suc x) q =
           let some : getD slots k 0 ≡ 0 → ⊥ = λ (z : getD slots k 0 ≡ 0). omega arith in
-          let full : drop k (nodesOf left right slots) ≡ tip (getD slots k 0) (treeAt left right k (getD left (getD slots k 0) 0)) ∷ drop (suc k) (nodesOf left right slots) =
-          next ∙ ap (λ (x : Slot). x ∷ drop (suc k) (nodesOf left right slots)) (pennant-some left right k (getD slots k 0) some) in
+          let full = slot-filled left right slots k within some in
           rw (filled-here slots k within some) (record {
             within = within;
             some = some;

@@ -5,7 +5,7 @@ use native.Mathlib.Numerals.{add-one}
 use mathlib.Core.Path.{_≡_, refl, sym, ap, _∙_}
 use mathlib.Core.List.{List, [], _∷_, _++_}
 use lib.ListN.{length, getD, take, drop, set, length-set}
-use lib.Seq.{set-set}
+use lib.Seq.{set-set, set-getD}
 use Rattle.lists.specs.Lists.{sumOf}
 use Rattle.pennant.specs.Pennant.{Slot, gap}
 use Rattle.pennant.specs.Bag.{Bag, adderSum, addFrom, bagUnion}
@@ -18,6 +18,7 @@ use Rattle.bag.proofs.Only.{in-pool-once}
 use Rattle.bag.proofs.Kept.{Same, nodes-kept, drop-kept, nodes-at, nodes-set, length-nodes, pennant-shaped}
 use Rattle.bag.proofs.Few.{rank-below}
 use Rattle.bag.proofs.Pairs.{root-below}
+use Rattle.bag.proofs.AddFacts.{add-nothing}
 use Rattle.bag.proofs.Backbone.{add-pass, add-end, weigh-parts, slot-weighs, next-weighs}
 use Rattle.bag.proofs.PlaceFacts.{some-filled, none-gap}
 
@@ -133,3 +134,7 @@ module _ (left₀ right₀ a b : List ℕ) where
               ap (λ (xs : List ℕ). nodesOf left′ right′ xs) (sym (set-set slots k 0 slot))
               ∙ nodes-set left′ right′ (set slots k 0) k slot
               ∙ rw (slots-same, d .sum, nodes-set left right slots k 0) (set-set (nodesOf left right slots) k (pennantAt left right k 0) (adderSum (pennantAt left right k (getD slots k 0)) (pennantAt left right k (getD b k 0)) (pennantAt left right k carry)))
+
+      -- a slot with nothing to add is passed: its sum is what it holds, and nothing is carried
+      pub uniting-pass : getD b k 0 ≡ 0 → carry ≡ 0 → Uniting left right slots carry (k + 1)
+      uniting-pass e q = rw q (rw (set-getD slots k 0) at (uniting-step left right (getD slots k 0) 0 (rw (e, q) (add-nothing left right k (getD slots k 0))) refl refl))

@@ -3,12 +3,11 @@
 // through left, from place 0 on, which is no node's. No operation walks a tree: each touches at most
 // the 16 slots of the bags it is given and, for a filled slot, one or two nodes.
 ghost use mathlib.Core.Path.{_≡_};
-ghost use Prim.Native.Nat.{ℕ, _≤_};
+ghost use Prim.Native.Nat.{ℕ};
 ghost use mathlib.Core.List.{List};
 ghost use lib.ListN.{drop};
 ghost use Rattle.pennant.specs.Bag.{isEmpty, atLeastTwo};
 ghost use Rattle.bag.specs.Nodes.{nodesOf, emptySlots};
-ghost use Rattle.bag.specs.Steps.{firstFilled};
 
 mod adder;
 mod nodes;
@@ -46,32 +45,33 @@ pub fn empty() -> Bag
     Bag { slots: [0u16; 16] }
 }
 
-// The first filled slot from `from` on, or 16.
-fn first_filled(bag: Bag, from: usize) -> usize
-    requires { ⌜ from ≤ 16 ⌝ }
-    ensures { λ r. ⌜ r ≡ firstFilled from (drop from (bag .slots)) ⌝ }
+// Whether no slot from `from` on is filled. The loop has no exit, so that all slots are looked at
+// at once.
+fn none_from(bag: Bag, from: usize) -> bool
+    ensures { λ r. ⌜ ((left right : List ℕ) → r ≡ isEmpty (drop from (nodesOf left right (bag .slots)))) ⌝ }
 {
     let slots = bag.slots;
+    let mut none = true;
     let mut k = from;
     while k < 16 {
         if slots[k] != 0 {
-            return k;
+            none = false;
         }
         k += 1;
     }
-    k
+    none
 }
 
 // Whether the bag is empty.
 pub fn is_empty(bag: Bag) -> bool
     ensures { λ r. ⌜ ((left right : List ℕ) → r ≡ isEmpty (nodesOf left right (bag .slots))) ⌝ }
 {
-    first_filled(bag, 0) == 16
+    none_from(bag, 0)
 }
 
 // Whether the bag holds at least two numbers.
 pub fn at_least_two(bag: Bag) -> bool
     ensures { λ r. ⌜ ((left right : List ℕ) → r ≡ atLeastTwo (nodesOf left right (bag .slots))) ⌝ }
 {
-    first_filled(bag, 1) < 16
+    !none_from(bag, 1)
 }

@@ -8,12 +8,11 @@ ghost use lib.ListN.{length, getD};
 ghost use Rattle.pennant.specs.Bag.{isEmpty};
 ghost use Rattle.bag.specs.Nodes.{nodesOf};
 ghost use Rattle.bag.specs.Promises.{Pooled, Inserted, United, SplitInto, TakenFrom};
-ghost use Rattle.bag.specs.Steps.{Loose, Placed, Shifted, Spilled};
+ghost use Rattle.bag.specs.Steps.{firstFilled, Loose, Placed, Shifted, Spilled};
 use crate::Bag;
 use crate::Halves;
 use crate::Taken;
 use crate::adder::add;
-use crate::first_filled;
 use crate::nodes::allocate;
 use crate::nodes::halve;
 use crate::nodes::link;
@@ -50,7 +49,8 @@ pub fn insert(bag: Bag, value: u16, left: &mut [u16], right: &mut [u16], number:
     place(bag, x, left, right)
 }
 
-// BAG-UNION of a and b.
+// BAG-UNION of a and b. A slot with nothing to add is passed: FA leaves it as it is and carries
+// nothing.
 pub fn union(a: Bag, b: Bag, left: &mut [u16], right: &mut [u16]) -> Bag
     requires { ⌜ Pooled (now left) (now right) (a .slots ∷ b .slots ∷ []) ⌝ }
     ensures { λ r. ⌜ United (now (left .entry)) (now (right .entry)) (a .slots) (b .slots) (now (left .exit)) (now (right .exit)) (r .slots) ⌝ }
@@ -60,9 +60,11 @@ pub fn union(a: Bag, b: Bag, left: &mut [u16], right: &mut [u16]) -> Bag
     let mut carry: u16 = 0;
     let mut k = 0;
     while k < 16 {
-        let sum = add(slots[k], others[k], carry, left, right);
-        slots[k] = sum.slot;
-        carry = sum.carry;
+        if others[k] != 0 || carry != 0 {
+            let sum = add(slots[k], others[k], carry, left, right);
+            slots[k] = sum.slot;
+            carry = sum.carry;
+        }
         k += 1;
     }
     Bag { slots }
@@ -127,6 +129,19 @@ fn spill(bag: Bag, from: usize, left: &mut [u16], right: &[u16]) -> Bag
     Bag { slots }
 }
 
+// The lowest filled slot of a bag that isn't empty: the search needs no bound.
+fn lowest(bag: Bag) -> usize
+    requires { ⌜ firstFilled 0 (bag .slots) < 16 ⌝ }
+    ensures { λ r. ⌜ r ≡ firstFilled 0 (bag .slots) ⌝ }
+{
+    let slots = bag.slots;
+    let mut k = 0;
+    while slots[k] == 0 {
+        k += 1;
+    }
+    k
+}
+
 // Takes the root of the pennant in the lowest filled slot and frees its node.
 pub fn take(bag: Bag, left: &mut [u16], right: &[u16], number: &[u16]) -> Taken
     requires { ⌜ Pooled (now left) (now right) (bag .slots ∷ []) ⌝ }
@@ -135,7 +150,7 @@ pub fn take(bag: Bag, left: &mut [u16], right: &[u16], number: &[u16]) -> Taken
     ensures { λ r. ⌜ TakenFrom (now (left .entry)) (now (right .entry)) (now (number .entry)) (bag .slots) (now (left .exit)) (r .bag .slots) (r .number) ⌝ }
 {
     let slots = bag.slots;
-    let k = first_filled(bag, 0);
+    let k = lowest(bag);
     let root = slots[k];
     let rest = spill(bag, k, left, right);
     release(root, left);

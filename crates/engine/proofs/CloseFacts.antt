@@ -22,14 +22,12 @@ use Rattle.model.specs.Play.{Run, playFrom, openingRun, play}
 use Rattle.model.specs.Words.{wordOf, labelsOf}
 use Rattle.model.proofs.Workers.{idle-each}
 use Rattle.model.proofs.Plays.{play-append, play-finished}
-use Rattle.workers.specs.declared.Worker.{Worker}
 use Rattle.engine.specs.declared.Answer.{Answer}
-use Rattle.workers.specs.Shown.{workerOf, workersOf, stateOf, bagsOf}
+use Rattle.workers.specs.Shown.{Worker, workerOf, workersOf, stateOf, bagsOf}
 use Rattle.workers.specs.Steps.{Fits, NoInputs, Gatherable, Gathered, idleOne, openedCrew}
 use Rattle.engine.specs.Runs.{answerOf, Ran}
 use Rattle.model.proofs.WordFacts.{words-again}
 use Rattle.workers.proofs.CrewFacts.{opened-workers, opened-whole, opened-free}
-use Rattle.workers.proofs.TriedFacts.{tried-met}
 use Rattle.engine.proofs.PlayingFacts.{SameLengths, Playing, Turn, graph, now-state, crew-taken, worker-here, worker-shown, placed}
 use Rattle.engine.proofs.PlayingFacts.{next-run, play-on, unmet-on}
 
@@ -131,9 +129,9 @@ module _ {source P : ℕ} {schedule offsets targets distances parents left right
             subst
             (λ (l : List Worker). Playing source P schedule offsets targets distances parents left′ right′ number l (used + 1) (effective + 1) (layer + 1))
             (sym opened)
-            (play-on turn {k = 1} {met = true} lengths (sym (at .crew-length)) refl raised-moved
-            (λ d w h. subst (Fits offsets (length distances)) (sym (opened-free b w d (placed at h .below))) tt)
-            (tried-met (close-act ∙ ap some raised-after)))
+            (play-on turn lengths (sym (at .crew-length)) raised-moved
+            (λ d w h. subst (Fits offsets (length distances)) (sym (opened-free b w d (placed at h))) tt)
+            (close-act ∙ ap some raised-after))
 
       -- it is: the search is finished
       module _ (none-left : isEmpty (nodesOf left′ right′ (b .slots)) ≡ true) where
@@ -144,7 +142,7 @@ module _ {source P : ℕ} {schedule offsets targets distances parents left right
             let rest = drop (used + 1) schedule in
             ap (play (graph at) source P) (sym (take-append-drop (used + 1) schedule))
             ∙ play-append (graph at) (openingRun (graph at) source P) (take (used + 1) schedule) rest
-            ∙ ap (λ (r : Run). playFrom (graph at) r rest) (next-run turn (tried-met (close-act ∙ ap some (close-as none-left))))
+            ∙ ap (λ (r : Run). playFrom (graph at) r rest) (next-run turn (close-act ∙ ap some (close-as none-left)))
             ∙ play-finished (graph at) (record { state = endedState (now-state at); used = used + 1; effective = effective + 1 }) rest refl
 
         -- the answer

@@ -4,3 +4,5 @@ pub mod StartFacts
 pub mod WorkFacts
 pub mod PairFacts
 pub mod CloseFacts
+pub mod BusyFacts
+pub mod EventFacts

@@ -1,23 +1,21 @@
 -- Two workers' exchange in a run, a split or a union: what it takes for granted holds, and after it the engine is where the model is.
 use mathlib.Core.Path.{_≡_, sym, ap, ap₂, subst, _∙_}
-use mathlib.Core.Bool.{Bool, cond}
 use mathlib.Core.List.{List, [], _∷_}
-use mathlib.Core.Option.{Option}
+use mathlib.Core.Option.{Option, none, some}
 use Prim.Native.Nat.{ℕ, _+_, _<_}
 use lib.ListN.{length, getD, set, take}
-use lib.Seq.{take-set-lt, set-getD}
+use lib.Seq.{take-set-lt}
 use Rattle.lists.proofs.Replaced.{length-two, set-each}
 use Rattle.bag.specs.Promises.{Pooled, Moved}
 use Rattle.schedule.specs.declared.Event.{Event}
 use Rattle.schedule.specs.declared.Event.the-variants.{Split, Unite}
 use Rattle.model.specs.State as model
 use Rattle.model.specs.Table.{replaceWorkers, act}
-use Rattle.workers.specs.declared.Worker.{Worker}
-use Rattle.workers.specs.Shown.{workerOf, workersOf, stateOf, bagsOf}
-use Rattle.workers.specs.Steps.{Tried, Fits, splitPair, unitePair, Exchanged}
+use Rattle.workers.specs.Shown.{Worker, workerOf, workersOf, stateOf, bagsOf}
+use Rattle.workers.specs.Steps.{Fits, splitPair, unitePair, Exchanged}
 use Rattle.workers.proofs.CrewFacts.{pool-pair, two-moved, two-workers}
-use Rattle.workers.proofs.TriedFacts.{putInto, put-tried, pairState, split-put, unite-put}
-use Rattle.engine.proofs.PlayingFacts.{SameLengths, Playing, Turn, graph, now-state, crew-taken, worker-here, worker-shown, staffed, play-on}
+use Rattle.workers.proofs.PutFacts.{putInto, pairState, split-put, unite-put}
+use Rattle.engine.proofs.PlayingFacts.{SameLengths, Playing, Turn, graph, now-state, crew-taken, worker-here, worker-shown, staffed, play-on, unmet-on}
 
 module _ {source P : ℕ} {schedule offsets targets distances parents left right number : List ℕ} {crew : List Worker} {used effective layer : ℕ} where
   -- an event of two workers, by its rule
@@ -71,8 +69,18 @@ module _ {source P : ℕ} {schedule offsets targets distances parents left right
     pub pair-pool : Pooled left right (bagsOf (first ∷ second ∷ []))
     pair-pool = rw (first-here, second-here) at (pool-pair (take P crew) w v d (at .pool) (inside .0) (inside .1) (event .there .2))
 
+    -- the event by the rule
+    pair-act : act (graph at) (now-state at) (event .kind)
+        ≡ putInto (pairState (now-state at) w v) (rule (workerOf offsets left right number first) (workerOf offsets left right number second))
+    pair-act = event .table ∙ ap₂ (λ (a b : model.Worker). putInto (pairState (now-state at) w v) (rule a b)) first-shown second-shown
+
+    -- the rule has nothing for the two
+    pub pair-unmet : rule (workerOf offsets left right number first) (workerOf offsets left right number second) ≡ none
+        → Playing source P schedule offsets targets distances parents left right number crew (used + 1) effective layer
+    pair-unmet nothing = unmet-on (event .turn) (pair-act ∙ ap (putInto (pairState (now-state at) w v)) nothing)
+
     -- after the exchange
-    module _ {left′ right′ : List ℕ} {x y : Worker} {met : Bool} (exchanged : Exchanged rule first second left right left′ right′ x y met) where
+    module _ {left′ right′ : List ℕ} {x y : Worker} (exchanged : Exchanged rule first second left right left′ right′ x y) where
       -- the crew
       abbrev crew′ : List Worker
       crew′ = set (set crew v y) w x
@@ -85,32 +93,17 @@ module _ {source P : ℕ} {schedule offsets targets distances parents left right
       pair-taken : take P crew′ ≡ set (set (take P crew) v y) w x
       pair-taken = take-set-lt P (set crew v y) w x (event .there .0) ∙ ap (λ (l : List Worker). set l w x) (take-set-lt P crew v y (event .there .1))
 
-      -- the state with the two put into it, before
-      pair-before : pairState (now-state at) w v (workerOf offsets left right number first, workerOf offsets left right number second) ≡ (now-state at)
-      unfolding stateOf
-      pair-before =
-          let ws = (now-state at) .workers in
-          ap (λ (l : List model.Worker). replaceWorkers (now-state at) l)
-          (rw (← first-shown, ← second-shown, set-getD ws v model.idleWorker) (set-getD ws w model.idleWorker))
-
       -- the state that the engine is in then
       abbrev next-state : model.State
       next-state = stateOf offsets distances parents left′ right′ number (take P crew′) layer
 
-      -- and after
+      -- is the one with the two put into it
       pair-after : pairState (now-state at) w v (workerOf offsets left′ right′ number x, workerOf offsets left′ right′ number y) ≡ next-state
       unfolding stateOf
       pair-after =
           ap (λ (l : List model.Worker). replaceWorkers (now-state at) l)
           (sym (ap (workersOf offsets left′ right′ number) pair-taken
           ∙ two-workers offsets left right number left′ right′ (take P crew) w v d x y (at .pool) (inside .0) (inside .1) (event .there .2) pair-apart))
-
-      -- the event was tried
-      pair-tried : Tried (act (graph at) (now-state at) (event .kind)) (now-state at) next-state met
-      pair-tried =
-          subst (λ (o : Option model.State). Tried o (now-state at) next-state met)
-          (sym (event .table ∙ ap₂ (λ (a b : model.Worker). putInto (pairState (now-state at) w v) (rule a b)) first-shown second-shown))
-          (put-tried (pairState (now-state at) w v) pair-before pair-after (exchanged .tried offsets number))
 
       -- no node is lost
       pair-moved : Moved left right (bagsOf (take P crew)) left′ right′ (bagsOf (take P crew′))
@@ -130,9 +123,9 @@ module _ {source P : ℕ} {schedule offsets targets distances parents left right
       second-fits = subst (Fits offsets (length distances)) (sym (exchanged .second-phase)) (at .fits d v (event .there .1))
 
       -- the run goes on
-      pub pair-on : {k : ℕ} → SameLengths distances parents left right number distances parents left′ right′ number → k ≡ cond met 1 0
-          → Playing source P schedule offsets targets distances parents left′ right′ number crew′ (used + 1) (effective + k) layer
-      pair-on lengths count =
-          play-on (event .turn) lengths (length-two crew v w y x) count pair-moved
+      pub pair-on : SameLengths distances parents left right number distances parents left′ right′ number
+          → Playing source P schedule offsets targets distances parents left′ right′ number crew′ (used + 1) (effective + 1) layer
+      pair-on lengths =
+          play-on (event .turn) lengths (length-two crew v w y x) pair-moved
           (λ d′. set-each Fitted (λ j. j < P) (set crew v y) w x d′ first-fits (set-each Fitted (λ j. j < P) crew v y d′ second-fits (at .fits d′)))
-          pair-tried
+          (pair-act ∙ ap (putInto (pairState (now-state at) w v)) (exchanged .made offsets number) ∙ ap some pair-after)

@@ -1,6 +1,5 @@
 -- A run before each byte: what holds there, and that it holds one byte later if the engine's lists and workers are what the table says.
-use mathlib.Core.Path.{_≡_, refl, sym, ap, subst, _∙_}
-use mathlib.Core.Bool.{Bool, false, cond}
+use mathlib.Core.Path.{_≡_, refl, sym, ap, ap₂, subst, _∙_}
 use mathlib.Core.List.{List}
 use mathlib.Core.Option.{none, some}
 use Prim.Native.Nat.{ℕ, _+_, _*_, _≤_, _<_}
@@ -8,12 +7,11 @@ use native.Mathlib.Numerals.{add-one}
 use native.Mathlib.Omega.{arith}
 use lib.ListN.{length, getD, take}
 use lib.Seq.{length-take-le, getD-take}
-use Rattle.lists.proofs.Tests.{test-within}
 use Rattle.lists.proofs.Replaced.{map-at}
 use Rattle.graph.specs.Graph.{Graph, rowsOf}
 use Rattle.pennant.specs.Held.{one}
 use Rattle.bag.specs.Promises.{Pooled, Moved, weighNodes, weighFree}
-use Rattle.bag.proofs.Family.{moved-pool, same-moved}
+use Rattle.bag.proofs.Family.{moved-pool}
 use Rattle.schedule.specs.Events.{eventOf}
 use Rattle.schedule.specs.declared.Event.{Event}
 use Rattle.schedule.specs.declared.Event.the-variants.{Malformed}
@@ -26,11 +24,9 @@ use Rattle.model.specs.Call.{nodePlaces}
 use Rattle.model.specs.Demand.{Fitting}
 use Rattle.model.proofs.Theorem.{demand-holds}
 use Rattle.model.proofs.Used.{play-more}
-use Rattle.workers.specs.declared.Worker.{Worker}
-use Rattle.workers.specs.Shown.{workerOf, stateOf, bagsOf}
-use Rattle.workers.specs.Steps.{Tried, Fits}
+use Rattle.workers.specs.Shown.{Worker, workerOf, stateOf, bagsOf}
+use Rattle.workers.specs.Steps.{Fits}
 use Rattle.engine.specs.Runs.{Runnable}
-use Rattle.workers.proofs.TriedFacts.{tried-met, tally-tried}
 
 -- Lengths.
 
@@ -86,17 +82,28 @@ module _ {distances parents left right number : List ℕ} where
   pub same-start : SameLengths distances parents left right number distances parents left right number
   same-start = record { of-distances = refl; of-parents = refl; of-left = refl; of-right = refl; of-number = refl }
 
-  -- only the nodes' links are written
+  -- only the left links are written
+  pub same-left : {left′ : List ℕ} {A : Type 0} → (length left′ ≡ length left) × A
+      → SameLengths distances parents left right number distances parents left′ right number
+  same-left (l, rest) = record { of-distances = refl; of-parents = refl; of-left = l; of-right = refl; of-number = refl }
+
+  -- only the labels
+  pub same-labels : {distances′ parents′ : List ℕ} {A : Type 0} → (length distances′ ≡ length distances) × ((length parents′ ≡ length parents) × A)
+      → SameLengths distances parents left right number distances′ parents′ left right number
+  same-labels (d, (p, rest)) = record { of-distances = d; of-parents = p; of-left = refl; of-right = refl; of-number = refl }
+
+  -- only the nodes
+  pub same-nodes : {left′ right′ number′ : List ℕ} {A : Type 0}
+      → (length left′ ≡ length left) × ((length right′ ≡ length right) × ((length number′ ≡ length number) × A))
+      → SameLengths distances parents left right number distances parents left′ right′ number′
+  same-nodes (l, (r, (k, rest))) = record { of-distances = refl; of-parents = refl; of-left = l; of-right = r; of-number = k }
+
+  -- only the nodes' links
   pub same-links : {left′ right′ : List ℕ} {A : Type 0} → (length left′ ≡ length left) × ((length right′ ≡ length right) × A)
       → SameLengths distances parents left right number distances parents left′ right′ number
   same-links (l, (r, rest)) = record { of-distances = refl; of-parents = refl; of-left = l; of-right = r; of-number = refl }
 
 -- Before each byte.
-
--- a place among the eight workers, whose offset fits a word
-pub record Placed (w : ℕ) : Type 0 where
-  pub below : w < 8
-  pub fits : w * 72 < 18446744073709551616
 
 -- the engine's values are those of the model's run over the bytes so far, and its lists are in order
 pub record Playing (source P : ℕ) (schedule offsets targets distances parents left right number : List ℕ) (crew : List Worker)
@@ -157,9 +164,9 @@ module _ {source P : ℕ} {schedule offsets targets distances parents left right
     pub layer-fits : layer + 1 < 65536
     layer-fits = omega (arith, layer-low, at .ready .rows .few-vertices)
 
-    -- a worker that is there has such a place
-    pub placed : {w : ℕ} → w < P → Placed w
-    placed there = let few = at .ready .accepted .few-workers in record { below = omega arith; fits = omega arith }
+    -- a worker that is there is one of eight
+    pub placed : {w : ℕ} → w < P → w < 8
+    placed there = omega (arith, at .ready .accepted .few-workers)
 
     -- a byte more is counted in a word
     pub used-fits : used < length schedule → used + 1 < 18446744073709551616
@@ -171,21 +178,37 @@ module _ {source P : ℕ} {schedule offsets targets distances parents left right
     at = turn .playing
 
     -- one byte more
-    pub next-run : {t : model.State} {met : Bool} → Tried (act (graph at) (now-state at) e) (now-state at) t met
-        → play (graph at) source P (take (used + 1) schedule) ≡ record { state = t; used = used + 1; effective = effective + cond met 1 0 }
+    step-run : play (graph at) source P (take (used + 1) schedule)
+        ≡ tally (record { state = (now-state at); used = used; effective = effective }) (act (graph at) (now-state at) e)
     unfolding step stateOf
-    next-run {t} {met} tried =
+    step-run =
         ap (λ (k : ℕ). play (graph at) source P (take k schedule)) (add-one used)
         ∙ play-more (graph at) source P schedule used (turn .below)
         ∙ ap (λ (r : Run). step (graph at) r (getD schedule used 0)) (at .same)
         ∙ ap (λ (x : Event). tally (record { state = (now-state at); used = used; effective = effective }) (act (graph at) (now-state at) x)) (turn .event)
-        ∙ tally-tried used effective tried
-        ∙ ap (λ (k : ℕ). record { state = t; used = k; effective = effective + cond met 1 0 }) (sym (add-one used))
+
+    -- an effective one
+    pub next-run : {t : model.State} → act (graph at) (now-state at) e ≡ some t
+        → play (graph at) source P (take (used + 1) schedule) ≡ record { state = t; used = used + 1; effective = effective + 1 }
+    unfolding tally
+    next-run {t} met =
+        step-run
+        ∙ ap (tally (record { state = (now-state at); used = used; effective = effective })) met
+        ∙ ap₂ (λ (k j : ℕ). record { state = t; used = k; effective = j }) (sym (add-one used)) (sym (add-one effective))
+
+    -- one whose condition isn't met
+    unmet-run : act (graph at) (now-state at) e ≡ none
+        → play (graph at) source P (take (used + 1) schedule) ≡ record { state = now-state at; used = used + 1; effective = effective }
+    unfolding tally
+    unmet-run unmet =
+        step-run
+        ∙ ap (tally (record { state = (now-state at); used = used; effective = effective })) unmet
+        ∙ ap (λ (k : ℕ). record { state = now-state at; used = k; effective = effective }) (sym (add-one used))
 
     -- an effective event leaves a state that fits
     pub next-fits : {t : model.State} → act (graph at) (now-state at) e ≡ some t → Fitting (graph at) P t
     unfolding stateAt
-    next-fits h = subst (λ (r : Run). Fitting (graph at) P (r .state)) (next-run (tried-met h)) (demand-holds (at .ready .accepted) .fitting (used + 1))
+    next-fits h = subst (λ (r : Run). Fitting (graph at) P (r .state)) (next-run h) (demand-holds (at .ready .accepted) .fitting (used + 1))
 
     -- the event's workers are there
     pub staffed : Staffed P e
@@ -193,33 +216,40 @@ module _ {source P : ℕ} {schedule offsets targets distances parents left right
         (rw (turn .event) at (stray-at P used schedule (at .ready .accepted .formed) (turn .below)))
 
     -- an effective event more is counted in a word
-    pub effective-fits : {k : ℕ} → k ≤ 1 → effective + k < 18446744073709551616
-    effective-fits few = omega (arith, few, turn .below, at .counted, at .ready .few-events)
+    pub effective-fits : effective + 1 < 18446744073709551616
+    effective-fits = omega (arith, turn .below, at .counted, at .ready .few-events)
 
-    -- after the event the engine is where the model is
-    pub play-on : {distances′ parents′ left′ right′ number′ : List ℕ} {crew′ : List Worker} {layer′ k : ℕ} {met : Bool}
+    -- after an effective event the engine is where the model is
+    pub play-on : {distances′ parents′ left′ right′ number′ : List ℕ} {crew′ : List Worker} {layer′ : ℕ}
         → SameLengths distances parents left right number distances′ parents′ left′ right′ number′
-        → length crew′ ≡ length crew → k ≡ cond met 1 0 → Moved left right (bagsOf (take P crew)) left′ right′ (bagsOf (take P crew′))
+        → length crew′ ≡ length crew → Moved left right (bagsOf (take P crew)) left′ right′ (bagsOf (take P crew′))
         → ((d : Worker) (w : ℕ) → w < P → Fits offsets (length distances) (getD crew′ w d .phase))
-        → Tried (act (graph at) (now-state at) e) (now-state at) (stateOf offsets distances′ parents′ left′ right′ number′ (take P crew′) layer′) met
-        → Playing source P schedule offsets targets distances′ parents′ left′ right′ number′ crew′ (used + 1) (effective + k) layer′
-    play-on {met = met} lengths same-crew count moved fits tried = record {
+        → act (graph at) (now-state at) e ≡ some (stateOf offsets distances′ parents′ left′ right′ number′ (take P crew′) layer′)
+        → Playing source P schedule offsets targets distances′ parents′ left′ right′ number′ crew′ (used + 1) (effective + 1) layer′
+    play-on lengths same-crew moved fits met = record {
       ready = runnable-still lengths (at .ready);
       within = omega (arith, turn .below);
-      same = rw count (next-run tried);
-      counted = omega (arith, at .counted, test-within met 1 (λ e. omega arith), count);
+      same = next-run met;
+      counted = omega (arith, at .counted);
       crew-length = same-crew ∙ at .crew-length;
       pool = moved-pool (at .pool) moved;
       whole = moved .nodes one ∙ at .whole ∙ ap (λ (m : ℕ). P * m) (sym (lengths .of-distances));
       fits = λ d w h. rw (lengths .of-distances) (fits d w h);
     }
 
-    -- nothing happens
+    -- after one whose condition isn't met it is where it was
     pub unmet-on : act (graph at) (now-state at) e ≡ none
         → Playing source P schedule offsets targets distances parents left right number crew (used + 1) effective layer
-    unmet-on nothing =
-        subst (λ (k : ℕ). Playing source P schedule offsets targets distances parents left right number crew (used + 1) k layer) (omega arith)
-        (play-on {k = 0} {met = false} same-start refl refl (same-moved (λ f. refl)) (at .fits) (record { happens = nothing; kept = λ f. refl }))
+    unmet-on unmet = record {
+      ready = at .ready;
+      within = omega (arith, turn .below);
+      same = unmet-run unmet;
+      counted = omega (arith, at .counted);
+      crew-length = at .crew-length;
+      pool = at .pool;
+      whole = at .whole;
+      fits = at .fits;
+    }
 
   -- a byte of no form
   pub malformed-on : Turn source P schedule offsets targets distances parents left right number crew used effective layer Malformed

@@ -13,8 +13,7 @@ use Rattle.model.specs.Paths.{Labels}
 use Rattle.model.specs.State as model
 use Rattle.model.specs.State.{openingState}
 use Rattle.model.specs.Play.{playFrom, play}
-use Rattle.workers.specs.declared.Worker.{Worker}
-use Rattle.workers.specs.Shown.{stateOf}
+use Rattle.workers.specs.Shown.{Worker, stateOf}
 use Rattle.workers.specs.Steps.{Fits, openedCrew}
 use Rattle.opening.specs.Opening.{FirstLayer}
 use Rattle.engine.specs.Runs.{Runnable}

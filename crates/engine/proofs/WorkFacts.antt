@@ -1,34 +1,34 @@
 -- A worker's move in a run: what it takes for granted holds, and after it the engine is where the model is.
 use mathlib.Core.Path.{_≡_, sym, ap, subst, _∙_}
-use mathlib.Core.Bool.{Bool, false, cond}
+use mathlib.Core.Bool.{true, false}
 use mathlib.Core.List.{List, [], _∷_, map}
-use mathlib.Core.Option.{Option, some}
+use mathlib.Core.Option.{some}
 use Prim.Native.Nat.{ℕ, suc, _+_, _-_, _*_, _≤_, _<_}
 use native.Mathlib.Omega.{arith}
 use lib.ListN.{length, getD, set, take, length-set, length-map}
-use lib.Seq.{take-set-lt, set-getD}
+use lib.Seq.{take-set-lt}
 use Rattle.lists.specs.Lists.{sumOf}
 use Rattle.lists.proofs.Sums.{sum-set}
 use Rattle.lists.proofs.Replaced.{set-each}
-use Rattle.pennant.specs.Bag.{Bag, bagInsert}
+use Rattle.pennant.specs.Bag.{Bag, isEmpty, bagInsert}
 use Rattle.pennant.specs.Held.{size, one, copies}
 use Rattle.pennant.proofs.Laws.{weigh-insert}
-use Rattle.bag.specs.Nodes.{heldBy}
+use Rattle.bag.specs.Nodes.{nodesOf, heldBy}
 use Rattle.bag.proofs.HeldFacts.{family-room}
 use Rattle.schedule.specs.declared.Event.the-variants.{Work}
 use Rattle.model.specs.State as model
-use Rattle.model.specs.Table.{holdAt, move, moveOf, movedState, afterMove, replaceWorkers, act}
+use Rattle.model.specs.Table.{holdAt, move, moveOf, movedState, afterMove, act}
 use Rattle.model.specs.Demand.{held}
 use Rattle.workers.specs.declared.Phase.{Phase}
-use Rattle.workers.specs.declared.Phase.the-variants.{Named}
-use Rattle.workers.specs.declared.Worker.{Worker}
+use Rattle.workers.specs.declared.Phase.the-variants.{Free, Named}
 use Rattle.model.specs.Words.{labelsOf}
-use Rattle.workers.specs.Shown.{phaseOf, workerOf, workersOf, stateOf, bagsOf}
-use Rattle.workers.specs.Steps.{Tried, Fits, Apart, Workable, Worked}
+use Rattle.workers.specs.Shown.{Worker, phaseOf, workerOf, workersOf, stateOf, bagsOf}
+use Rattle.workers.specs.Steps.{Fits, Apart, Workable, Worked}
 use Rattle.workers.proofs.CrewFacts.{pool-worker, one-moved, one-workers, held-crew}
-use Rattle.workers.proofs.TriedFacts.{putInto, put-tried, move-put}
+use Rattle.workers.proofs.MoveFacts.{begin-none}
+use Rattle.workers.proofs.PutFacts.{putInto, move-put}
 use Rattle.engine.proofs.PlayingFacts.{SameLengths, Playing, Turn, graph, now-state, crew-taken, now-fits, worker-here, worker-shown}
-use Rattle.engine.proofs.PlayingFacts.{layer-low, next-fits, staffed, play-on}
+use Rattle.engine.proofs.PlayingFacts.{layer-low, next-fits, staffed, play-on, unmet-on}
 
 module _ {source P : ℕ} {schedule offsets targets distances parents left right number : List ℕ} {crew : List Worker} {used effective layer : ℕ} {w : ℕ}
     (turn : Turn source P schedule offsets targets distances parents left right number crew used effective layer (Work w)) (d : Worker) where
@@ -102,9 +102,25 @@ module _ {source P : ℕ} {schedule offsets targets distances parents left right
     room = λ u i t named. stow-room u i t named;
   }
 
+  -- the event by the worker's move
+  work-act : act (graph at) (now-state at) (Work w)
+      ≡ putInto (movedState (now-state at) w) (moveOf (graph at) layer (labelsOf distances parents) (workerOf offsets left right number worker))
+  unfolding act stateOf
+  work-act =
+      move-put (now-state at) w _
+      ∙ ap (λ (x : model.Worker). putInto (movedState (now-state at) w) (moveOf (graph at) layer (labelsOf distances parents) x)) shown
+
+  -- a free worker whose input bag is empty has none
+  pub idle-on : worker .phase ≡ Free → isEmpty (nodesOf left right (worker .input .slots)) ≡ true
+      → Playing source P schedule offsets targets distances parents left right number crew (used + 1) effective layer
+  idle-on free empty =
+      unmet-on turn
+      (work-act
+      ∙ ap (putInto (movedState (now-state at) w)) (begin-none (graph at) layer (labelsOf distances parents) worker offsets left right number free empty))
+
   -- after its move
-  module _ {distances′ parents′ left′ right′ number′ : List ℕ} {worker′ : Worker} {met : Bool}
-      (worked : Worked worker layer offsets targets distances parents left right number distances′ parents′ left′ right′ number′ worker′ met) where
+  module _ {distances′ parents′ left′ right′ number′ : List ℕ} {worker′ : Worker}
+      (worked : Worked worker layer offsets targets distances parents left right number distances′ parents′ left′ right′ number′ worker′) where
     -- the worker as one of the first P
     one-apart : Apart (getD (take P crew) w d ∷ []) left right number left′ right′ number′ (worker′ ∷ [])
     one-apart = subst (λ (x : Worker). Apart (x ∷ []) left right number left′ right′ number′ (worker′ ∷ [])) (sym (worker-here at d w there)) (worked .apart)
@@ -113,18 +129,11 @@ module _ {source P : ℕ} {schedule offsets targets distances parents left right
     one-taken : take P (set crew w worker′) ≡ set (take P crew) w worker′
     one-taken = take-set-lt P crew w worker′ there
 
-    -- the state with the worker put into it, before
-    one-before : movedState (now-state at) w (workerOf offsets left right number worker, labelsOf distances parents) ≡ (now-state at)
-    unfolding stateOf
-    one-before =
-        ap (λ (ws : List model.Worker). replaceWorkers (now-state at) ws)
-        (ap (set ((now-state at) .workers) w) (sym shown) ∙ set-getD ((now-state at) .workers) w model.idleWorker)
-
     -- the state that the engine is in then
     abbrev next-state : model.State
     next-state = stateOf offsets distances′ parents′ left′ right′ number′ (take P (set crew w worker′)) layer
 
-    -- and after
+    -- is the one with the worker put into it
     one-after : movedState (now-state at) w (workerOf offsets left′ right′ number′ worker′, labelsOf distances′ parents′) ≡ next-state
     unfolding stateOf
     one-after =
@@ -132,20 +141,11 @@ module _ {source P : ℕ} {schedule offsets targets distances parents left right
         (sym (ap (workersOf offsets left′ right′ number′) one-taken
         ∙ one-workers offsets left right number left′ right′ number′ (take P crew) w d worker′ (at .pool) inside one-apart))
 
-    -- the event was tried
-    work-tried : Tried (act (graph at) (now-state at) (Work w)) (now-state at) next-state met
-    unfolding act stateOf
-    work-tried =
-        subst (λ (o : Option model.State). Tried o (now-state at) next-state met)
-        (sym (move-put (now-state at) w _
-        ∙ ap (λ (x : model.Worker). putInto (movedState (now-state at) w) (moveOf (graph at) layer (labelsOf distances parents) x)) shown))
-        (put-tried (movedState (now-state at) w) one-before one-after (worked .tried))
-
     -- the run goes on
-    pub work-on : {k : ℕ} → SameLengths distances parents left right number distances′ parents′ left′ right′ number′ → k ≡ cond met 1 0
-        → Playing source P schedule offsets targets distances′ parents′ left′ right′ number′ (set crew w worker′) (used + 1) (effective + k) layer
-    work-on lengths count =
-        play-on turn lengths (length-set crew w worker′) count
+    pub work-on : SameLengths distances parents left right number distances′ parents′ left′ right′ number′
+        → Playing source P schedule offsets targets distances′ parents′ left′ right′ number′ (set crew w worker′) (used + 1) (effective + 1) layer
+    work-on lengths =
+        play-on turn lengths (length-set crew w worker′)
         (rw one-taken (one-moved offsets left right number left′ right′ number′ (take P crew) w d worker′ (at .pool) inside one-apart))
         (λ d′. set-each (λ (x : Worker). Fits offsets (length distances) (x .phase)) (λ j. j < P) crew w worker′ d′ (worked .phase-fits) (at .fits d′))
-        work-tried
+        (work-act ∙ ap (putInto (movedState (now-state at) w)) (worked .made) ∙ ap some one-after)

@@ -11,8 +11,8 @@ pub mod HeaderFacts
 pub mod ScanFacts
 pub mod WordRuns
 pub mod WalkFacts
-pub mod MarkFacts
-pub mod FillFacts
+pub mod RankFacts
+pub mod RowFacts
 pub mod ReadFacts
 pub mod EarlyFacts
 pub mod UnchainFacts

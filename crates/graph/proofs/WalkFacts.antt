@@ -1,10 +1,11 @@
--- A walk along the chains, vertex by vertex: the records that are still to come, and how they are met one at a time. Both walks of the
--- reader, the one that marks and the one that writes rows, go by these facts.
-use mathlib.Core.Path.{_≡_, ap}
+-- A walk along the chains, vertex by vertex: the records that are still to come, and how they are met one at a time; and the words of a record.
+use mathlib.Core.Path.{_≡_, ap, _∙_}
 use mathlib.Core.List.{List, [], _∷_, map}
 use Prim.Native.Nat.{ℕ, suc, _+_, _*_, _-_, _≤_, _<_}
-use native.Mathlib.Nat.{sub-zero}
+use native.Mathlib.Nat.{sub-zero, le-of-eq}
 use native.Mathlib.Omega.{arith}
+use lib.ListN.{length, take, drop, length-drop}
+use lib.Seq.{take-all, getD-drop}
 use Rattle.lists.specs.Lists.{numbersFrom}
 use Rattle.lists.proofs.Chains.{chain-none, chain-some}
 use Rattle.graph.specs.File.{word, vertexCount, edgeCount, headIndex, target, next, chain, chains}
@@ -49,11 +50,30 @@ pub chain-step : (file : List ℕ) (steps r : ℕ) → (r ≡ 0 → ⊥) → cha
 unfolding chain
 chain-step file steps r h = chain-some (next file) steps r h
 
+-- what stands behind the first n words
+abbrev behind : List ℕ → ℕ → List ℕ
+behind file n = take (length file - 2 * n) (drop (2 * n) file)
+
+-- a word of it
+word-behind : (file : List ℕ) (n i : ℕ) → word (behind file n) i ≡ word file (n + i)
+unfolding word
+word-behind file n i =
+    let whole : behind file n ≡ drop (2 * n) file = take-all (length file - 2 * n) (drop (2 * n) file) (le-of-eq (length-drop (2 * n) file)) in
+    let low : 2 * n + 2 * i ≡ 2 * (n + i) = omega arith in
+    let high : 2 * n + (2 * i + 1) ≡ 2 * (n + i) + 1 = omega arith in
+    rw (whole, getD-drop (2 * n) file (2 * i) 0, getD-drop (2 * n) file (2 * i + 1) 0, low, high)
+
 -- the words of record r, counted from n
 pub target-word : {file : List ℕ} {n m : ℕ} → Sized file n m → (r : ℕ) → word file (n + 2 * r) ≡ target file r
 unfolding target
 target-word {file} s r = ap (λ (k : ℕ). word file (k + 2 * r)) (s .vertices)
 
-pub next-word : {file : List ℕ} {n m : ℕ} → Sized file n m → (r : ℕ) → word file (n + 2 * r + 1) ≡ next file r
+next-word : {file : List ℕ} {n m : ℕ} → Sized file n m → (r : ℕ) → word file (n + 2 * r + 1) ≡ next file r
 unfolding next
 next-word {file} s r = ap (λ (k : ℕ). word file (k + 2 * r + 1)) (s .vertices)
+
+-- the same in what stands behind the first n words
+pub next-behind : {file : List ℕ} {n m : ℕ} → Sized file n m → (r : ℕ) → word (behind file n) (2 * r + 1) ≡ next file r
+next-behind {file} {n} s r =
+    let same : n + (2 * r + 1) ≡ n + 2 * r + 1 = omega arith in
+    word-behind file n (2 * r + 1) ∙ ap (word file) same ∙ next-word s r

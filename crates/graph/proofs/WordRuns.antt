@@ -1,42 +1,39 @@
--- Facts about the words of a file: a run of words taken one at a time, as a list and place by place, the words of a list's first bytes, and n.
+-- Facts about the words of a file: the largest of a run of words taken one at a time, a run as a list and place by place, the words of a list's first
+-- bytes, and n.
 use mathlib.Core.Path.{_≡_, refl, sym, ap, _∙_}
-use mathlib.Core.Bool.{true, false}
 use mathlib.Core.List.{List}
-use Prim.Native.Nat.{ℕ, zero, suc, _+_, _*_, _-_, _≤_, _<_}
-use native.Mathlib.Nat.{add-zero, mul-le-mul-left, mul-suc}
+use Prim.Native.Nat.{ℕ, zero, suc, _+_, _*_, _-_, _≤_, _<_, max}
+use native.Mathlib.Nat.{add-zero, sub-zero, mul-zero, mul-suc}
+use native.Mathlib.Numerals.{add-one}
 use native.Mathlib.Omega.{arith}
 use lib.ListN.{length, getD, take, drop}
-use borrow.Author.Tests.{le-leb, lt-leb}
-use Rattle.lists.specs.Lists.{reaches}
+use Rattle.lists.specs.Lists.{largest}
 use Rattle.lists.proofs.Parts.{part-at}
 use Rattle.graph.specs.File.{word, wordsAt, vertexCount}
 
--- how many are left after one of them is taken
-left-suc : (count i : ℕ) → i < count → count - i ≡ suc (count - (i + 1))
-left-suc count i h = omega arith
+-- A pass over `count` words at `place`, `place + stride`, .., that keeps the largest.
 
--- whether some word is large: not the first, so one of the rest
-pub reaches-pass : (file : List ℕ) (at stride count i limit : ℕ) → i < count → word file at < limit
-    → reaches limit (wordsAt file at stride (count - i)) ≡ reaches limit (wordsAt file (at + stride) stride (count - (i + 1)))
-unfolding reaches wordsAt
-reaches-pass file at stride count i limit h w = rw (left-suc count i h, lt-leb limit (word file at) w)
+-- after i words: the largest so far, `found`, and what is left give the largest of all words and of the number that the pass began with
+pub record Passing (file : List ℕ) (place stride count start i found : ℕ) : Type 0 where
+  pub whole : max start (largest (wordsAt file place stride count)) ≡ max found (largest (wordsAt file (place + stride * i) stride (count - i)))
 
--- the first one is
-pub reaches-here : (file : List ℕ) (at stride count i limit : ℕ) → i < count → limit ≤ word file at → true ≡ reaches limit (wordsAt file at stride (count - i))
-unfolding reaches wordsAt
-reaches-here file at stride count i limit h w = rw (left-suc count i h, le-leb limit (word file at) w)
+module _ (file : List ℕ) (place stride count start : ℕ) where
+  pub pass-start : Passing file place stride count start 0 start
+  pass-start = record { whole = rw (mul-zero stride, add-zero place, sub-zero count) }
 
--- none is left
-pub reaches-none : (file : List ℕ) (at stride count i limit : ℕ) → count ≤ i → false ≡ reaches limit (wordsAt file at stride (count - i))
-unfolding reaches wordsAt
-reaches-none file at stride count i limit h = rw none
-  where
-    none : count - i ≡ 0
-    none = omega arith
+  -- one word more
+  pub pass-word : {i at found w larger : ℕ} → Passing file place stride count start i found → i < count → w ≡ word file at → at ≡ place + stride * i
+      → larger ≡ max found w → Passing file place stride count start (i + 1) larger
+  unfolding largest wordsAt
+  pass-word {i} p h w e f =
+      let left : count - i ≡ suc (count - (i + 1)) = omega arith in
+      let behind : place + stride * i + stride ≡ place + stride * (i + 1) = omega (arith, mul-suc stride i, ap (λ (k : ℕ). stride * k) (add-one i)) in
+      record { whole = omega (arith, rw (left, behind, ← e) at (p .whole)) }
 
--- the words up to i and the i-th are among the words up to count
-pub stride-le : (stride i count : ℕ) → i < count → stride * i + stride ≤ stride * count
-stride-le stride i count h = rw (mul-suc stride i) at (mul-le-mul-left stride h)
+  -- none is left
+  pub pass-end : {i found : ℕ} → Passing file place stride count start i found → count ≤ i → found ≡ max start (largest (wordsAt file place stride count))
+  unfolding largest wordsAt
+  pass-end {i} {found} p h = let none : count - i ≡ 0 = omega arith in omega (arith, rw none at (p .whole))
 
 -- a run of words has so many
 pub length-words : (file : List ℕ) (place stride count : ℕ) → length (wordsAt file place stride count) ≡ count

@@ -1,15 +1,15 @@
--- What the inner steps of reading take for granted of each other: a header that passed, then a scan that passed; and what they leave to the steps
--- after them: the rows of a graph.
-use Prim.Native.Nat.{ℕ, _≤_}
+-- What the inner steps of reading take for granted of each other: a header that passed, then a scan that passed, then chains whose records are ranked;
+-- and what they leave to the steps after them: the rows of a graph.
+use Prim.Native.Nat.{ℕ, _+_, _-_, _≤_, _<_}
 use mathlib.Core.Path.{_≡_}
 use mathlib.Core.Bool.{false, cond}
 use mathlib.Core.List.{List}
-use lib.ListN.{length, replicate}
+use lib.ListN.{length, getD, replicate}
 use Rattle.numbers.specs.Numbers.{maxVertices, maxEdges, success}
 use Rattle.numbers.specs.Refusals.{first}
 use Rattle.lists.specs.Lists.{overlay, reaches}
 use Rattle.graph.specs.Graph.{offsetsOf, targetsOf, rowsOf}
-use Rattle.graph.specs.File.{vertexCount, edgeCount, fileLength, graphOf}
+use Rattle.graph.specs.File.{vertexCount, edgeCount, fileLength, reached, graphOf}
 use Rattle.graph.specs.Read.{headerRefusals, scanRefusals, chainRefusals, answerWith, writesRows}
 use Rattle.graph.specs.declared.ReadAnswer.{ReadAnswer}
 
@@ -35,6 +35,10 @@ pub record Scanned (file : List ℕ) (n m : ℕ) : Type 0 where
 pub record Chained (file : List ℕ) (n m : ℕ) : Type 0 where
   pub scanned : Scanned file n m
   pub whole : first (chainRefusals file) ≡ success
+
+-- the marks hold each record's rank: 1 at the first that is reached, 2 at the next, and so on
+pub record Ranked (file marks : List ℕ) : Type 0 where
+  pub ranks : (j : ℕ) → j < length (reached file) → getD marks (getD (reached file) j 0 - 1) 0 ≡ j + 1
 
 -- what `unchain` answers and leaves: 5, 6 or 0; rows are written with 0 alone, and the first m marks are 0 in any case
 pub record Unchained (file : List ℕ) (m number : ℕ) (offsets₀ targets₀ marks₀ offsets targets marks : List ℕ) : Type 0 where

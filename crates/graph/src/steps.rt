@@ -2,16 +2,20 @@
 // steps with checks of their own between them. Each may assume what the steps before it showed.
 ghost use mathlib.Core.Path.{_≡_};
 ghost use Prim.Native.Nat.{ℕ, _+_, _<_, _≤_};
-ghost use lib.ListN.{length, getD, drop, replicate};
+ghost use lib.ListN.{length, getD, drop};
 ghost use Rattle.numbers.specs.Refusals.{first};
 ghost use Rattle.lists.specs.Lists.{overlay};
 ghost use Rattle.graph.specs.Graph.{offsetsOf, targetsOf};
 ghost use Rattle.graph.specs.File.{graphOf};
 ghost use Rattle.graph.specs.Read.{refusalAnswer, outsideSizes, scanRefusals, chainRefusals, rowsShort};
-ghost use Rattle.graph.specs.Steps.{headerAnswer, Sized, Scanned, Chained, Unchained};
+ghost use Rattle.graph.specs.Steps.{headerAnswer, Sized, Scanned, Chained, Ranked, Unchained};
 use crate::ReadAnswer;
-use crate::words::any_reaches;
+use crate::words::element;
+use crate::words::larger;
+use crate::words::largest_word;
+use crate::words::wide16;
 use crate::words::word;
+use crate::words::word16;
 
 // Zeros beside a refusal's number.
 pub fn refused(number: usize) -> ReadAnswer
@@ -62,18 +66,24 @@ pub fn header(file: &[u8]) -> ReadAnswer
     }
 }
 
-// 4 over the whole file, then 3.
+// 4 over the whole file, then 3: by the largest head or next and the largest target, in one pass over
+// the records with no exit on the way.
 pub fn scan(file: &[u8], n: usize, m: usize) -> usize
     requires { ⌜ Sized (now file) n m ⌝ }
     ensures { λ r. ⌜ r ≡ first (scanRefusals (now (file .entry))) ⌝ }
 {
-    if any_reaches(file, 2, 1, n, m + 1) {
+    let mut index = largest_word(file, 2, n);
+    let mut target = 0;
+    let mut i = 0;
+    while i < m {
+        target = larger(target, word16(file, n + 2 + 2 * i));
+        index = larger(index, word16(file, n + 3 + 2 * i));
+        i += 1;
+    }
+    if m < wide16(index) {
         return numbers::BAD_INDEX;
     }
-    if any_reaches(file, n + 3, 2, m, m + 1) {
-        return numbers::BAD_INDEX;
-    }
-    if any_reaches(file, n + 2, 2, m, n) {
+    if n <= wide16(target) {
         return numbers::BAD_TARGET;
     }
     numbers::SUCCESS
@@ -95,7 +105,8 @@ pub fn rows_short(n: usize, m: usize, offsets: usize, targets: usize, marks: usi
     false
 }
 
-// 5, 6; only then rows are written. Marks are working room.
+// 5, 6; only then rows are written. Marks are working room, clear before and after: what they hold at
+// entry does not matter.
 pub fn unchain(
     file: &[u8],
     n: usize,
@@ -110,36 +121,30 @@ pub fn unchain(
     requires { ⌜ m ≤ length (now marks) ⌝ }
     ensures { λ r. ⌜ Unchained (now (file .entry)) m r (now (offsets .entry)) (now (targets .entry)) (now (marks .entry)) (now (offsets .exit)) (now (targets .exit)) (now (marks .exit)) ⌝ }
 {
-    let number = check_chains(file, n, m, marks);
-    if number != numbers::SUCCESS {
-        return number;
-    }
-    fill(file, n, m, offsets, targets);
-    numbers::SUCCESS
-}
-
-// 5, 6, with marks clear before and after: what they hold at entry does not matter.
-fn check_chains(file: &[u8], n: usize, m: usize, marks: &mut [u16]) -> usize
-    requires { ⌜ Scanned (now file) n m ⌝ }
-    requires { ⌜ m ≤ length (now marks) ⌝ }
-    ensures { λ r. ⌜ r ≡ first (chainRefusals (now (file .entry))) ⌝ }
-    ensures { λ r. ⌜ now (marks .exit) ≡ overlay (replicate m 0) (now (marks .entry)) ⌝ }
-{
     lists::clear(marks, m);
-    let number = mark(file, n, m, marks);
+    let number = rank(file, n, m, marks);
+    if number == numbers::SUCCESS {
+        write_targets(file, n, m, marks, targets);
+        write_offsets(file, n, m, marks, offsets);
+    }
     lists::clear(marks, m);
     number
 }
 
-// Follows every chain and marks each record it meets: 5 at a record that is marked already, 6 where
-// one is left unmarked at the end.
-fn mark(file: &[u8], n: usize, m: usize, marks: &mut [u16]) -> usize
+// Follows every chain and marks each record it meets with its rank, 1 for the first, 2 for the next:
+// 5 at a record that is marked already, 6 where one is left unmarked at the end. Each step waits for
+// the index that the one before it read; so that this index leads straight to its words, `records`
+// begins at word n, and record r stands at its word 2 * r.
+fn rank(file: &[u8], n: usize, m: usize, marks: &mut [u16]) -> usize
     requires { ⌜ Scanned (now file) n m ⌝ }
     requires { ⌜ m ≤ length (now marks) ⌝ }
     requires { ⌜ ((i : ℕ) → i < m → getD (now marks) i 0 ≡ 0) ⌝ }
     ensures { λ r. ⌜ r ≡ first (chainRefusals (now (file .entry))) ⌝ }
+    ensures { λ r. ⌜ (r ≡ 0 → Ranked (now (file .entry)) (now (marks .exit))) ⌝ }
     ensures { λ r. ⌜ drop m (now (marks .exit)) ≡ drop m (now (marks .entry)) ⌝ }
 {
+    let start = 2 * n;
+    let records = &file[start..];
     let mut vertex = 0;
     let mut index = 0;
     let mut count = 0;
@@ -154,9 +159,9 @@ fn mark(file: &[u8], n: usize, m: usize, marks: &mut [u16]) -> usize
             if marks[index - 1] != 0 {
                 return numbers::REPEATED;
             }
-            marks[index - 1] = 1;
             count += 1;
-            index = word(file, n + 2 * index + 1);
+            marks[index - 1] = count as u16;
+            index = word(records, 2 * index + 1);
         }
     }
     if count < m {
@@ -165,29 +170,42 @@ fn mark(file: &[u8], n: usize, m: usize, marks: &mut [u16]) -> usize
     numbers::SUCCESS
 }
 
-// Follows every chain again and writes the rows.
-fn fill(file: &[u8], n: usize, m: usize, offsets: &mut [u16], targets: &mut [u16])
+// Writes each record's target where its rank says: no chain is followed again.
+fn write_targets(file: &[u8], n: usize, m: usize, marks: &[u16], targets: &mut [u16])
     requires { ⌜ Chained (now file) n m ⌝ }
-    requires { ⌜ n + 1 ≤ length (now offsets) ⌝ }
+    requires { ⌜ Ranked (now file) (now marks) ⌝ }
+    requires { ⌜ m ≤ length (now marks) ⌝ }
     requires { ⌜ m ≤ length (now targets) ⌝ }
-    ensures { λ _. ⌜ now (offsets .exit) ≡ overlay (offsetsOf (graphOf (now (file .entry)))) (now (offsets .entry)) ⌝ }
     ensures { λ _. ⌜ now (targets .exit) ≡ overlay (targetsOf (graphOf (now (file .entry)))) (now (targets .entry)) ⌝ }
 {
-    let mut vertex = 0;
-    let mut index = 0;
-    let mut count = 0;
+    let mut i = 0;
+    while i < m {
+        let place = element(marks, i) - 1;
+        targets[place] = word16(file, n + 2 + 2 * i);
+        i += 1;
+    }
+}
+
+// Writes the offsets from the last to the first: a vertex's row starts at the rank of its head, and an
+// empty one where the next row does.
+fn write_offsets(file: &[u8], n: usize, m: usize, marks: &[u16], offsets: &mut [u16])
+    requires { ⌜ Chained (now file) n m ⌝ }
+    requires { ⌜ Ranked (now file) (now marks) ⌝ }
+    requires { ⌜ m ≤ length (now marks) ⌝ }
+    requires { ⌜ n + 1 ≤ length (now offsets) ⌝ }
+    ensures { λ _. ⌜ now (offsets .exit) ≡ overlay (offsetsOf (graphOf (now (file .entry)))) (now (offsets .entry)) ⌝ }
+{
+    let mut vertex = n;
+    let mut offset = m;
     loop {
-        if index == 0 {
-            offsets[vertex] = count as u16;
-            if vertex == n {
-                break;
-            }
-            index = word(file, 2 + vertex);
-            vertex += 1;
-        } else {
-            targets[count] = word(file, n + 2 * index) as u16;
-            count += 1;
-            index = word(file, n + 2 * index + 1);
+        offsets[vertex] = offset as u16;
+        if vertex == 0 {
+            break;
+        }
+        vertex -= 1;
+        let head = word(file, 2 + vertex);
+        if head != 0 {
+            offset = element(marks, head - 1) - 1;
         }
     }
 }

@@ -1,16 +1,34 @@
 // 16-bit words in a list of bytes, low byte first, and the elements of a list of 16-bit numbers.
 ghost use mathlib.Core.Path.{_≡_};
-ghost use Prim.Native.Nat.{_+_, _*_, _/_, _%_, _<_, _≤_};
+ghost use Prim.Native.Nat.{_+_, _*_, _/_, _%_, _<_, _≤_, max};
 ghost use lib.ListN.{length, getD, set};
-ghost use Rattle.lists.specs.Lists.{reaches};
+ghost use Rattle.lists.specs.Lists.{largest};
 ghost use Rattle.graph.specs.File.{wordsAt};
 ghost use Rattle.graph.specs.File.{word as File·word};
 
-fn wide(byte: u8) -> usize
+fn wide(byte: u8) -> u16
     ensures { λ r. ⌜ r ≡ byte ⌝ }
     ensures { λ r. ⌜ r < 256 ⌝ }
 {
-    byte as usize
+    byte as u16
+}
+
+// The word at place i, 16 bits wide as it is stored.
+pub fn word16(file: &[u8], i: usize) -> u16
+    requires { ⌜ 2 * i + 1 < length (now file) ⌝ }
+    ensures { λ r. ⌜ r ≡ File·word (now (file .entry)) i ⌝ }
+{
+    let low = wide(file[2 * i]);
+    let high = wide(file[2 * i + 1]);
+    low + 256 * high
+}
+
+// The number, as wide as a count.
+pub fn wide16(x: u16) -> usize
+    ensures { λ r. ⌜ r ≡ x ⌝ }
+    ensures { λ r. ⌜ r < 65536 ⌝ }
+{
+    x as usize
 }
 
 // The word at place i.
@@ -19,34 +37,32 @@ pub fn word(file: &[u8], i: usize) -> usize
     ensures { λ r. ⌜ r ≡ File·word (now (file .entry)) i ⌝ }
     ensures { λ r. ⌜ r < 65536 ⌝ }
 {
-    let low = wide(file[2 * i]);
-    let high = wide(file[2 * i + 1]);
-    low + 256 * high
+    wide16(word16(file, i))
 }
 
-// Whether one of the `count` words at `place`, `place + stride`, .. is `limit` or more.
-pub fn any_reaches(file: &[u8], place: usize, stride: usize, count: usize, limit: usize) -> bool
-    requires { ⌜ stride ≤ 2 ⌝ }
-    requires { ⌜ 2 * (place + stride * count) + 2 ≤ length (now file) + 2 * stride ⌝ }
-    ensures { λ r. ⌜ r ≡ reaches limit (wordsAt (now (file .entry)) place stride count) ⌝ }
+// The larger of two.
+pub fn larger(x: u16, y: u16) -> u16
+    ensures { λ r. ⌜ r ≡ max x y ⌝ }
 {
+    if x < y {
+        return y;
+    }
+    x
+}
+
+// The largest of the `count` words from `place` on, 0 of none. No exit on the way: so the loop is
+// compiled to steps over several words at a time.
+pub fn largest_word(file: &[u8], place: usize, count: usize) -> u16
+    requires { ⌜ 2 * (place + count) ≤ length (now file) ⌝ }
+    ensures { λ r. ⌜ r ≡ largest (wordsAt (now (file .entry)) place 1 count) ⌝ }
+{
+    let mut found = 0;
     let mut i = 0;
-    let mut at = place;
     while i < count {
-        if limit <= word(file, at) {
-            return true;
-        }
-        at += stride;
+        found = larger(found, word16(file, place + i));
         i += 1;
     }
-    false
-}
-
-fn wide16(x: u16) -> usize
-    ensures { λ r. ⌜ r ≡ x ⌝ }
-    ensures { λ r. ⌜ r < 65536 ⌝ }
-{
-    x as usize
+    found
 }
 
 // The element at place i.

@@ -1,12 +1,15 @@
--- Facts about `overlay`: a list that is written from the front, place by place, over a longer one.
-use mathlib.Core.Path.{_≡_, refl, sym, ap, _∙_}
+-- Facts about `overlay`: a list that is written over a longer one, place by place from the front, or in any order.
+use mathlib.Core.Path.{_≡_, refl, sym, ap, ap₂, _∙_}
+use mathlib.Core.Bool.{Bool, true, false}
 use mathlib.Core.List.{List, [], _∷_, _++_, append-nil}
 use Prim.Native.Nat.{ℕ, zero, suc, _+_, _-_, _≤_, _<_}
 use native.Mathlib.Nat.{le-refl, le-of-suc-le-suc, not-suc-le-zero}
 use native.Mathlib.Numerals.{add-one}
 use native.Mathlib.Omega.{arith}
-use lib.ListN.{length, getD, set, take, drop, replicate, length-append, length-drop, length-replicate, getD-replicate, List·getD-append}
-use lib.Seq.{take-all, take-at, length-take-le, drop-append-add, drop-at, drop-drop, drop-length}
+use lib.Dec.{eqb}
+use lib.ListN.{length, getD, set, take, drop, replicate, length-append, length-set, length-drop, length-replicate, getD-replicate, take-append-drop, List·getD-append}
+use lib.Seq.{take-all, take-at, length-take-le, drop-append-add, drop-at, drop-drop, drop-length, drop-set-lt, getD-take, getD-set-same, getD-set-other, ext-getD}
+use borrow.Author.Tests.{eqb-true, eqb-false}
 use Rattle.lists.specs.Lists.{overlay}
 
 -- no place of a list lies past its end
@@ -82,6 +85,44 @@ unfolding overlay
 overlay-whole l x =
     let filled : List ℕ = replicate (length l) x in
     rw (length-replicate (length l) x, drop-length l) (append-nil filled)
+
+-- The same written in any order.
+
+-- `list` holds the new numbers at the places that are done, and past them all what `old` held
+pub record Laid (new old list : List ℕ) (done : ℕ → Type 0) : Type 0 where
+  pub long : length list ≡ length old
+  pub rest : drop (length new) list ≡ drop (length new) old
+  pub there : (j : ℕ) → j < length new → done j → getD list j 0 ≡ getD new j 0
+
+-- no place is done
+pub laid-none : (new old : List ℕ) (done : ℕ → Type 0) → ((j : ℕ) → j < length new → done j → ⊥) → Laid new old old done
+laid-none new old done none = record { long = refl; rest = refl; there = λ j h d. absurd (none j h d) }
+
+-- one more is
+pub laid-more : (new old list : List ℕ) (done more : ℕ → Type 0) {p x : ℕ} → Laid new old list done → length new ≤ length old → p < length new
+    → x ≡ getD new p 0 → ((j : ℕ) → j < length new → more j → (j ≡ p → ⊥) → done j) → Laid new old (set list p x) more
+laid-more new old list done more {p} {x} l room h e before = record {
+  long = length-set list p x ∙ l .long;
+  rest = drop-set-lt (length new) list p x h ∙ l .rest;
+  there = λ j k d. go j k d (eqb j p) refl;
+}
+  where
+    go : (j : ℕ) → j < length new → more j → (b : Bool) → eqb j p ≡ b → getD (set list p x) j 0 ≡ getD new j 0
+    go j k d true q = let same = eqb-true j p q in rw same (getD-set-same list p x 0 (omega (arith, l .long)) ∙ e)
+    go j k d false q =
+        let other = eqb-false j p q in
+        getD-set-other list p j x 0 other ∙ l .there j k (before j k d other)
+
+-- all are
+pub laid-all : (new old list : List ℕ) (done : ℕ → Type 0) → Laid new old list done → length new ≤ length old → ((j : ℕ) → j < length new → done j)
+    → list ≡ overlay new old
+unfolding overlay
+laid-all new old list done l room all =
+    let n = length new in
+    let size : length (take n list) ≡ n = length-take-le n list (omega (arith, l .long)) in
+    let front : take n list ≡ new =
+    ext-getD 0 (take n list) new size (λ j h. let k : j < n = omega arith in getD-take n list j 0 k ∙ l .there j k (all j k)) in
+    sym (take-append-drop n list) ∙ ap₂ (λ (a b : List ℕ). a ++ b) front (l .rest)
 
 -- Parts of lists, written on their own.
 

@@ -1,32 +1,11 @@
--- Facts about what is left of a list after its first places, where the toolchain's libraries have them the other way round; and what is read
--- at a place.
+-- What is read at a place of a list, of repeated elements, and of a part of a list.
 use mathlib.Core.Path.{_≡_, refl, sym, ap, _∙_}
-use mathlib.Core.List.{List, [], _∷_, nil≢cons, cons≢nil, head-eq-of-cons-eq, tail-eq-of-cons-eq}
+use mathlib.Core.List.{List, [], _∷_}
 use mathlib.Core.Option.{Option, none, some, Option·none-ne-some}
-use Prim.Native.Nat.{ℕ, zero, suc, _+_, _≤_, _<_, zero-le, suc-le-suc}
+use Prim.Native.Nat.{ℕ, zero, suc, _+_, _≤_, _<_}
 use native.Mathlib.Omega.{arith}
 use lib.ListN.{length, getD, take, drop, replicate}
 use lib.Seq.{getD-take, getD-drop}
-
--- what stands at place i: the rest of the list from there on begins with x
-pub record Next (list : List ℕ) (i x : ℕ) (rest : List ℕ) : Type 0 where
-  pub below : i < length list
-  pub here : getD list i 0 ≡ x
-  pub after : drop (suc i) list ≡ rest
-
-pub drop-next : (list : List ℕ) (i x : ℕ) (rest : List ℕ) → drop i list ≡ x ∷ rest → Next list i x rest
-drop-next [] zero x rest e = absurd (nil≢cons e)
-drop-next [] (suc i) x rest e = absurd (nil≢cons e)
-drop-next (y ∷ list) zero x rest e = record { below = suc-le-suc zero-le; here = head-eq-of-cons-eq e; after = tail-eq-of-cons-eq e }
-drop-next (y ∷ list) (suc i) x rest e =
-    let n = drop-next list i x rest e in
-    record { below = suc-le-suc (n .below); here = n .here; after = n .after }
-
--- nothing is left: the place is the end
-pub drop-done : (list : List ℕ) (i : ℕ) → drop i list ≡ [] → length list ≤ i
-drop-done [] i e = zero-le
-drop-done (x ∷ list) zero e = absurd (cons≢nil e)
-drop-done (x ∷ list) (suc i) e = suc-le-suc (drop-done list i e)
 
 -- a place that is set is one of the list
 pub place-below : {A : Type 0} (l : List (Option A)) (i : ℕ) {a : A} → getD l i none ≡ some a → i < length l

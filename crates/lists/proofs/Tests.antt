@@ -2,15 +2,16 @@
 -- end to end, and the pigeonhole, which counts distinct numbers by the places that they have.
 use mathlib.Core.Path.{_≡_, refl, sym, ap, _∙_}
 use mathlib.Core.Bool.{Bool, true, false, cond, not, _||_, or-assoc, true≢false}
-use mathlib.Core.List.{List, [], _∷_, _++_, map, map-append, flatten}
-use Prim.Native.Nat.{ℕ, zero, suc, _+_, _≤_, _<_}
+use mathlib.Core.List.{List, [], _∷_, _++_, map, map-append, flatten, nil≢cons}
+use Prim.Native.Nat.{ℕ, zero, suc, _+_, _≤_, _<_, max}
 use mathlib.Core.Logic.{_≢_}
 use native.Mathlib.Nat.{le-of-suc-le-suc, not-suc-le-zero, not-le-of-lt, zero-add, add-zero, suc-add, add-suc}
 use native.Mathlib.Omega.{arith}
 use lib.Dec.{leb, ltb, eqb}
 use lib.ListN.{length, getD, length-append}
-use borrow.Author.Tests.{ltb-false, leb-false, eqb-true, eqb-false, not-false, le-ltb, lt-leb, eq-eqb, ne-eqb}
-use Rattle.lists.specs.Lists.{numbersFrom, sumsFrom, elem, repeats, lacks, reaches, fallsFrom}
+use lib.Seq.{getD-append-add}
+use borrow.Author.Tests.{ltb-false, leb-true, leb-false, eqb-true, eqb-false, not-false, le-ltb, le-leb, lt-leb, eq-eqb, ne-eqb}
+use Rattle.lists.specs.Lists.{numbersFrom, sumsFrom, elem, repeats, lacks, reaches, largest, fallsFrom}
 use Rattle.lists.proofs.Or.{or-none, none-or, or-second, not-so}
 
 -- a test, counted as 0 or 1, is at most n, if n is at least 1 where it holds
@@ -316,6 +317,32 @@ reaches-map limit f [] h = refl
 reaches-map limit f (y ∷ l) h =
     none-or (leb limit (f y)) (reaches limit (map f l)) (lt-leb limit (f y) (h y (elem-first y l))) (reaches-map limit f l (λ x e. h x (elem-later x y l e)))
 
+-- two tests against one limit that hold of the same numbers
+leb-same : (limit x y : ℕ) → (limit ≤ x → limit ≤ y) → (limit ≤ y → limit ≤ x) → leb limit x ≡ leb limit y
+leb-same limit x y there back = go (leb limit x) refl
+  where
+    go : (b : Bool) → leb limit x ≡ b → b ≡ leb limit y
+    go true e = sym (le-leb limit y (there (leb-true limit x e)))
+    go false e = sym (not-so (leb limit y) (λ f. let h = leb-false limit x e in let k = back (leb-true limit y f) in omega arith))
+
+-- some number is the limit or more where the largest is
+pub reaches-largest : (limit : ℕ) (l : List ℕ) → 1 ≤ limit → reaches limit l ≡ leb limit (largest l)
+unfolding reaches largest
+reaches-largest limit [] h = sym (lt-leb limit 0 h)
+reaches-largest limit (x ∷ l) h = go (leb limit x) refl (reaches-largest limit l h)
+  where
+    go : (b : Bool) → leb limit x ≡ b → reaches limit l ≡ leb limit (largest l) → reaches limit (x ∷ l) ≡ leb limit (max x (largest l))
+    go true e rest = rw e (sym (le-leb limit (max x (largest l)) (let k = leb-true limit x e in omega arith)))
+    go false e rest =
+        let low = leb-false limit x e in
+        rw e (rest ∙ leb-same limit (largest l) (max x (largest l)) (λ k. omega arith) (λ k. omega arith))
+
+-- the largest number of lists laid end to end
+pub largest-append : (a b : List ℕ) → largest (a ++ b) ≡ max (largest a) (largest b)
+unfolding largest
+largest-append [] b = omega arith
+largest-append (x ∷ a) b = omega (arith, largest-append a b)
+
 -- Numbers that do not fall.
 
 -- the first number, and the rest judged against it
@@ -347,6 +374,35 @@ pub last-sums : (a d : ℕ) (rows : List (List ℕ)) → getD (sumsFrom a (map l
 unfolding sumsFrom flatten
 last-sums a d [] = omega arith
 last-sums a d (row ∷ rows) = last-sums (a + length row) d rows ∙ simp length-append (omega arith)
+
+-- the first element of row u, by its place among all rows laid end to end
+pub record RowStart (rows : List (List ℕ)) (a u x : ℕ) : Type 0 where
+  pub place : ℕ
+  pub offset : getD (sumsFrom a (map length rows)) u 0 ≡ a + place
+  pub below : place < length (flatten rows)
+  pub is : getD (flatten rows) place 0 ≡ x
+
+-- a row with a first element
+pub row-start : (rows : List (List ℕ)) (a u x : ℕ) (rest : List ℕ) → getD rows u [] ≡ x ∷ rest → RowStart rows a u x
+unfolding sumsFrom flatten
+row-start [] a u x rest e = absurd (nil≢cons e)
+row-start (row ∷ rows) a zero x rest e = rw e (record { place = 0; offset = omega arith; below = omega arith; is = refl })
+row-start (row ∷ rows) a (suc u) x rest e =
+    let s = row-start rows (a + length row) u x rest e in
+    record {
+      place = length row + s .place;
+      offset = omega (arith, s .offset);
+      below = omega (arith, s .below, length-append row (flatten rows));
+      is = getD-append-add row (flatten rows) (s .place) 0 ∙ s .is;
+    }
+
+-- an empty row starts where the next one does
+pub row-none : (rows : List (List ℕ)) (a u : ℕ) → u < length rows → getD rows u [] ≡ []
+    → getD (sumsFrom a (map length rows)) u 0 ≡ getD (sumsFrom a (map length rows)) (suc u) 0
+unfolding sumsFrom
+row-none [] a u h e = absurd (omega arith)
+row-none (row ∷ rows) a zero h e = rw e (omega (arith, first-sums (a + 0) 0 (map length rows)))
+row-none (row ∷ rows) a (suc u) h e = row-none rows (a + length row) u (omega arith) e
 
 -- a function at each number of each row
 pub map-flatten : (f : ℕ → ℕ) (rows : List (List ℕ)) → flatten (map (λ (row : List ℕ). map f row) rows) ≡ map f (flatten rows)

@@ -1,6 +1,6 @@
--- Lists: one laid over another, consecutive numbers, running sums, sums of a weight, values counted as 0 or 1, chains, pieces of a list, and tests
+-- Lists: one laid over another, consecutive numbers, running sums, the largest number, sums of a weight, values counted as 0 or 1, chains, pieces of a list, and tests
 -- that compute. No vertex, edge, byte or node here.
-use Prim.Native.Nat.{ℕ, zero, suc, _+_}
+use Prim.Native.Nat.{ℕ, zero, suc, _+_, max}
 use mathlib.Core.Bool.{Bool, false, not, _||_}
 use mathlib.Core.List.{List, [], _∷_, _++_}
 use mathlib.Core.Option.{Option, none, some}
@@ -40,6 +40,11 @@ lacks (x ∷ xs) list = not (elem x list) || lacks xs list
 unfoldable pub reaches : ℕ → List ℕ → Bool
 reaches limit [] = false
 reaches limit (x ∷ xs) = leb limit x || reaches limit xs
+
+-- the largest number of the list, 0 of none
+unfoldable pub largest : List ℕ → ℕ
+largest [] = 0
+largest (x ∷ xs) = max x (largest xs)
 
 -- whether some number of the list is less than the one before it, the first one being judged against x
 unfoldable pub fallsFrom : ℕ → List ℕ → Bool

@@ -20,8 +20,7 @@ use Rattle.bag.proofs.HeldFacts.{held-none}
 use Rattle.model.specs.State as model
 use Rattle.model.specs.Demand.{held}
 use Rattle.workers.specs.declared.Phase.the-variants.{Free}
-use Rattle.workers.specs.declared.Worker.{Worker}
-use Rattle.workers.specs.Shown.{phaseOf, workerOf, workersOf, bagsOf}
+use Rattle.workers.specs.Shown.{Worker, phaseOf, workerOf, workersOf, bagsOf}
 use Rattle.workers.specs.Steps.{Apart, withInput, idleOne, openedCrew}
 
 -- what is read past the end of a crew
@@ -185,17 +184,6 @@ held-crew offsets left right number [] = refl
 held-crew offsets left right number (w ∷ crew) = omega (arith, held-crew offsets left right number crew)
 
 -- A layer that opens.
-
--- a worker with nothing to do, by its bags
-abbrev idleWith : bag.Bag → Worker
-idleWith b = record { input = b; output = b; phase = Free }
-
--- eight workers, the first one with the bag, where the bags of the others are empty
-pub opened-eight : (b nothing : bag.Bag) (first : Worker) → nothing .slots ≡ emptySlots → first ≡ withInput (idleWith nothing) b
-    → set (replicate 8 (idleWith nothing)) 0 first ≡ openedCrew b
-opened-eight b nothing first none e =
-    ap (λ (x : Worker). set (replicate 8 (idleWith nothing)) 0 x) e
-    ∙ ap (λ (l : List ℕ). set (replicate 8 (idleWith (record { slots = l }))) 0 (withInput (idleWith (record { slots = l })) b)) none
 
 module _ (P : ℕ) (b : bag.Bag) (some-worker : 1 ≤ P) (few-workers : P ≤ 8) where
   -- the crew of P workers as a layer opens

@@ -1,4 +1,4 @@
--- One worker's moves as the table has them: the two with a bag, `begin` and `stow`, and the three ways of `work`.
+-- One worker's moves as the table has them: the two with a bag, `begin` and `stow`, the three ways that a worker moves, and when it doesn't.
 use mathlib.Core.Path.{_≡_, refl, sym, ap, ap₂, _∙_, subst}
 use mathlib.Core.Bool.{Bool, true, false}
 use mathlib.Core.Logic.{_⊎_, inl, inr}
@@ -22,13 +22,11 @@ use Rattle.model.specs.State as model
 use Rattle.model.specs.Table.{holdAt, move, moveOf}
 use Rattle.workers.specs.declared.Phase.{Phase}
 use Rattle.workers.specs.declared.Phase.the-variants.{Free, Holding, InHand, Marked, Named}
-use Rattle.workers.specs.declared.Worker.{Worker}
 use Rattle.model.specs.Words.{labelsOf}
-use Rattle.workers.specs.Shown.{phaseOf, workerOf, bagsOf}
+use Rattle.workers.specs.Shown.{Worker, phaseOf, workerOf, bagsOf}
 use Rattle.graph.specs.Steps.{GraphRows}
 use Rattle.graph.proofs.GraphRowsFacts.{offsets-long}
-use Rattle.workers.specs.Steps.{EdgeOf, Fits, holdFrom, Between, Advanced, Apart, Stocked, Begun, Stowed, Workable, Worked}
-use Rattle.workers.proofs.TriedFacts.{tried-met}
+use Rattle.workers.specs.Steps.{EdgeOf, Fits, holdFrom, Between, Advanced, Apart, Stocked, TookFrom, StowedInto, Workable, Worked}
 use Rattle.workers.proofs.RowFacts.{hold-shown, hold-fits, pass-shown, pass-fits}
 
 -- Two bags of one pool, of which one moves.
@@ -117,20 +115,14 @@ free-take : (g : Graph) (layer : ℕ) (x : Labels) (input output : Bag) → isEm
 unfolding move
 free-take g layer x input output filled = rw filled
 
--- a free worker with an empty bag stays as it is
-pub begin-none : (worker : Worker) (offsets left right number : List ℕ) → worker .phase ≡ Free → isEmpty (nodesOf left right (worker .input .slots)) ≡ true
-    → Begun worker offsets left right number left worker false
-begin-none worker offsets left right number free empty = record {
-  tried = λ targets n ground layer distances parents. record {
-    happens =
-        free-move (rowsOf offsets targets) layer (labelsOf distances parents) offsets left right number worker free
-        ∙ free-none (rowsOf offsets targets) layer (labelsOf distances parents) (heldBy left right number (worker .input .slots))
-        (heldBy left right number (worker .output .slots)) (held-empty left right number (worker .input .slots) ∙ empty);
-    kept = λ e. refl;
-  };
-  apart = same-apart worker (worker .phase) left right number;
-  phase-fits = λ targets n ground. subst (λ (p : Phase). Fits offsets n p) (sym free) tt;
-}
+-- a free worker with an empty bag has no move
+pub begin-none : (g : Graph) (layer : ℕ) (x : Labels) (worker : Worker) (offsets left right number : List ℕ) → worker .phase ≡ Free
+    → isEmpty (nodesOf left right (worker .input .slots)) ≡ true
+    → moveOf g layer x (workerOf offsets left right number worker) ≡ none
+begin-none g layer x worker offsets left right number free empty =
+    free-move g layer x offsets left right number worker free
+    ∙ free-none g layer x (heldBy left right number (worker .input .slots)) (heldBy left right number (worker .output .slots))
+    (held-empty left right number (worker .input .slots) ∙ empty)
 
 -- a free worker takes a number and holds the vertex
 pub begin-taken : (worker : Worker) (offsets left right number left′ : List ℕ) (rest : bag.Bag) (value : ℕ) → worker .phase ≡ Free
@@ -138,11 +130,11 @@ pub begin-taken : (worker : Worker) (offsets left right number left′ : List �
     → isEmpty (nodesOf left right (worker .input .slots)) ≡ false
     → TakenFrom left right number (worker .input .slots) left′ (rest .slots) value
     → value + 1 < length offsets
-    → Begun worker offsets left right number left′
-    (record { input = rest; output = worker .output; phase = holdFrom offsets value (getD offsets value 0) }) true
+    → TookFrom worker offsets left right number left′
+    (record { input = rest; output = worker .output; phase = holdFrom offsets value (getD offsets value 0) })
 unfolding bagsOf workerOf
 begin-taken worker offsets left right number left′ rest value free stocked filled taken below = record {
-  tried = λ targets n ground layer distances parents. tried-met (happens targets n ground layer (labelsOf distances parents));
+  made = λ targets n ground layer distances parents. happens targets n ground layer (labelsOf distances parents);
   apart = record {
     moved = first-moved pool (taken .moved);
     kept-number = λ x h c. refl;
@@ -191,9 +183,9 @@ pub begin-held : (worker : Worker) (offsets left right number left′ : List ℕ
     → value + 1 < length offsets
     → first ≡ getD offsets value 0
     → phase ≡ holdFrom offsets value first
-    → Begun worker offsets left right number left′ (record { input = rest; output = worker .output; phase = phase }) true
+    → TookFrom worker offsets left right number left′ (record { input = rest; output = worker .output; phase = phase })
 begin-held worker offsets left right number left′ rest value first phase free stocked filled taken below start held =
-    subst (λ (p : Phase). Begun worker offsets left right number left′ (record { input = rest; output = worker .output; phase = p }) true)
+    subst (λ (p : Phase). TookFrom worker offsets left right number left′ (record { input = rest; output = worker .output; phase = p }))
     (sym (held ∙ ap (λ (e : ℕ). holdFrom offsets value e) start))
     (begin-taken worker offsets left right number left′ rest value free stocked filled taken below)
 
@@ -217,7 +209,7 @@ named-move g layer x offsets left right number worker u e t named =
 pub stow-made : (worker : Worker) (u e t : ℕ) (offsets left right number left′ right′ number′ : List ℕ) (output : bag.Bag) → worker .phase ≡ Named u e t
     → Stocked worker left right number
     → Inserted left right number (worker .output .slots) t left′ right′ number′ (output .slots)
-    → Stowed worker offsets left right number left′ right′ number′ (record { input = worker .input; output = output; phase = holdFrom offsets u (e + 1) })
+    → StowedInto worker offsets left right number left′ right′ number′ (record { input = worker .input; output = output; phase = holdFrom offsets u (e + 1) })
 unfolding bagsOf workerOf
 stow-made worker u e t offsets left right number left′ right′ number′ output named stocked inserted = record {
   made = λ targets n ground fits layer distances parents.
@@ -247,9 +239,9 @@ pub stow-held : (worker : Worker) (u e t : ℕ) (offsets left right number left�
     → Stocked worker left right number
     → Inserted left right number (worker .output .slots) t left′ right′ number′ (output .slots)
     → phase ≡ holdFrom offsets u (e + 1)
-    → Stowed worker offsets left right number left′ right′ number′ (record { input = worker .input; output = output; phase = phase })
+    → StowedInto worker offsets left right number left′ right′ number′ (record { input = worker .input; output = output; phase = phase })
 stow-held worker u e t offsets left right number left′ right′ number′ output phase named stocked inserted held =
-    subst (λ (p : Phase). Stowed worker offsets left right number left′ right′ number′ (record { input = worker .input; output = output; phase = p }))
+    subst (λ (p : Phase). StowedInto worker offsets left right number left′ right′ number′ (record { input = worker .input; output = output; phase = p }))
     (sym held)
     (stow-made worker u e t offsets left right number left′ right′ number′ output named stocked inserted)
 
@@ -287,25 +279,23 @@ not-between is never h = absurd (never (subst Between is h))
 module _ {worker : Worker} {layer : ℕ} {offsets targets distances parents left right number : List ℕ}
     (workable : Workable worker layer offsets targets distances parents left right number) where
   -- what a free worker may take
-  pub work-input : (v : ℕ) → 1 ≤ copies v (heldBy left right number (worker .input .slots)) → (v + 1 < length offsets) × (v + 1 < 65536)
-  work-input v h =
-      let below = workable .input-below v h in
-      (omega (arith, offsets-long (workable .rows)), omega (arith, workable .rows .few-vertices))
+  pub work-input : (v : ℕ) → 1 ≤ copies v (heldBy left right number (worker .input .slots)) → v + 1 < length offsets
+  work-input v h = omega (arith, workable .input-below v h, offsets-long (workable .rows))
 
   -- a free worker's move
-  pub work-begun : {left′ : List ℕ} {worker′ : Worker} {met : Bool} → Begun worker offsets left right number left′ worker′ met
-      → Worked worker layer offsets targets distances parents left right number distances parents left′ right number worker′ met
+  pub work-begun : {left′ : List ℕ} {worker′ : Worker} → TookFrom worker offsets left right number left′ worker′
+      → Worked worker layer offsets targets distances parents left right number distances parents left′ right number worker′
   work-begun begun = record {
-    tried = begun .tried targets (length distances) (workable .rows) layer distances parents;
+    made = begun .made targets (length distances) (workable .rows) layer distances parents;
     apart = begun .apart;
     phase-fits = begun .phase-fits targets (length distances) (workable .rows);
   }
 
   -- the move of a worker that has named its target
-  pub work-stowed : {left′ right′ number′ : List ℕ} {worker′ : Worker} → Stowed worker offsets left right number left′ right′ number′ worker′
-      → Worked worker layer offsets targets distances parents left right number distances parents left′ right′ number′ worker′ true
+  pub work-stowed : {left′ right′ number′ : List ℕ} {worker′ : Worker} → StowedInto worker offsets left right number left′ right′ number′ worker′
+      → Worked worker layer offsets targets distances parents left right number distances parents left′ right′ number′ worker′
   work-stowed stowed = record {
-    tried = tried-met (stowed .made targets (length distances) (workable .rows) (workable .phase-fits) layer distances parents);
+    made = stowed .made targets (length distances) (workable .rows) (workable .phase-fits) layer distances parents;
     apart = stowed .apart;
     phase-fits = stowed .phase-fits targets (length distances) (workable .rows) (workable .phase-fits);
   }
@@ -314,10 +304,10 @@ module _ {worker : Worker} {layer : ℕ} {offsets targets distances parents left
   pub work-advanced : {distances′ parents′ : List ℕ} {phase′ : Phase}
       → Advanced (worker .phase) layer offsets targets distances parents distances′ parents′ phase′
       → Worked worker layer offsets targets distances parents left right number distances′ parents′ left right number
-      (record { input = worker .input; output = worker .output; phase = phase′ }) true
+      (record { input = worker .input; output = worker .output; phase = phase′ })
   unfolding workerOf
   work-advanced {phase′ = phase′} advanced = record {
-    tried = tried-met (advanced .made (heldBy left right number (worker .input .slots)) (heldBy left right number (worker .output .slots)));
+    made = advanced .made (heldBy left right number (worker .input .slots)) (heldBy left right number (worker .output .slots));
     apart = same-apart worker phase′ left right number;
     phase-fits = advanced .phase-fits;
   }

@@ -27,7 +27,6 @@ pub record EdgeSmall (offsets targets : List ℕ) (n u e : ℕ) : Type 0 where
   pub edge-below : e < length targets
   pub edge-small : e + 1 < 65536
   pub vertex-below : u + 1 < length offsets
-  pub vertex-small : u + 1 < 65536
   pub target-below : getD targets e 0 < n
 
 module _ {offsets targets : List ℕ} {n : ℕ} (ground : GraphRows offsets targets n) where
@@ -65,7 +64,6 @@ module _ {offsets targets : List ℕ} {n : ℕ} (ground : GraphRows offsets targ
         edge-below = omega (arith, edge .last);
         edge-small = omega (arith, edge .last, ground .few-edges);
         vertex-below = omega (arith, edge .vertex, offsets-long ground);
-        vertex-small = omega (arith, edge .vertex, ground .few-vertices);
         target-below = target-below ground e (omega (arith, edge .last));
       }
 

@@ -4,11 +4,32 @@ use mathlib.Core.List.{List, [], _∷_, map}
 use Prim.Native.Nat.{ℕ, _-_}
 use lib.ListN.{getD}
 use Rattle.bag.specs.Nodes.{heldBy}
+use Rattle.bag.specs.declared.Bag as bag
 use Rattle.model.specs.State as model
 use Rattle.model.specs.Words.{labelsOf}
 use Rattle.workers.specs.declared.Phase.{Phase}
 use Rattle.workers.specs.declared.Phase.the-variants.{Free, Holding, InHand, Marked, Named}
-use Rattle.workers.specs.declared.Worker.{Worker}
+
+-- a worker: its input bag, its output bag and its phase
+pub record Worker : Type 0 where
+  pub input : bag.Bag
+  pub output : bag.Bag
+  pub phase : Phase
+
+-- by its three parts
+abbrev pub workerFrom : bag.Bag → bag.Bag → Phase → Worker
+workerFrom input output phase = record { input = input; output = output; phase = phase }
+
+-- all workers: their input bags, output bags and phases stand in three lists
+unfoldable pub crewOf : List bag.Bag → List bag.Bag → List Phase → List Worker
+crewOf [] outputs phases = []
+crewOf (a ∷ inputs) [] phases = []
+crewOf (a ∷ inputs) (b ∷ outputs) [] = []
+crewOf (a ∷ inputs) (b ∷ outputs) (p ∷ phases) = workerFrom a b p ∷ crewOf inputs outputs phases
+
+-- a bag's slots
+abbrev pub slotsOf : bag.Bag → List ℕ
+slotsOf b = b .slots
 
 -- the phase that an engine's phase stands for: the engine counts edges through all rows, the model from the start of u's row
 unfoldable pub phaseOf : List ℕ → Phase → model.Phase

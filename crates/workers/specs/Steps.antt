@@ -2,7 +2,7 @@
 -- stands there afterwards. No outside contract cites these.
 use mathlib.Core.Path.{_≡_}
 use mathlib.Core.Bool.{Bool, true, false, cond}
-use mathlib.Core.List.{List, [], _∷_}
+use mathlib.Core.List.{List, [], _∷_, map, foldl}
 use mathlib.Core.Option.{Option, none, some}
 use Prim.Native.Nat.{ℕ, _+_, _≤_, _<_}
 use lib.Dec.{eqb, ltb}
@@ -10,20 +10,18 @@ use lib.ListN.{length, getD, replicate, set}
 use Rattle.numbers.specs.Numbers.{maxWorkers, unset}
 use Rattle.graph.specs.Graph.{rowsOf}
 use Rattle.graph.specs.Steps.{GraphRows}
-use Rattle.pennant.specs.Bag.{Bag}
+use Rattle.pennant.specs.Bag.{Bag, bagUnion}
 use Rattle.pennant.specs.Held.{copies}
 use Rattle.bag.specs.Nodes.{heldBy, emptySlots}
 use Rattle.bag.specs.Promises.{Pooled, Moved, uses}
 use Rattle.bag.specs.declared.Bag as bag
 use Rattle.schedule.specs.declared.Event.the-variants.{Split, Unite}
 use Rattle.model.specs.State as model
-use Rattle.model.specs.Table.{move, moveOf, allIdle, unitedOutputs, act}
+use Rattle.model.specs.Table.{move, moveOf, isIdle, allIdle, unitedOutputs, act}
 use Rattle.workers.specs.declared.Phase.{Phase}
 use Rattle.workers.specs.declared.Phase.the-variants.{Free, Holding, InHand, Marked, Named}
-use Rattle.workers.specs.declared.Worker.{Worker}
-use Rattle.workers.specs.declared.Pair.{Pair}
 use Rattle.model.specs.Words.{labelsOf}
-use Rattle.workers.specs.Shown.{phaseOf, workerOf, workersOf, bagsOf}
+use Rattle.workers.specs.Shown.{Worker, workerFrom, phaseOf, workerOf, workersOf, bagsOf}
 
 -- an event or a move that was tried: the table has something for it where its condition was met, else all is as it was
 pub record Tried {A : Type 0} (o : Option A) (old new : A) (met : Bool) : Type 0 where
@@ -83,24 +81,23 @@ pub record Stocked (worker : Worker) (left right number : List ℕ) : Type 0 whe
   pub pool : Pooled left right (bagsOf (worker ∷ []))
   pub numbered : length left ≤ length number
 
--- `begin`: a free worker takes, if it can; so in every graph that the offsets belong to
-pub record Begun (worker : Worker) (offsets left right number left′ : List ℕ) (worker′ : Worker) (met : Bool) : Type 0 where
-  pub tried : (targets : List ℕ) (n : ℕ) → GraphRows offsets targets n → (layer : ℕ) (distances parents : List ℕ)
-      → Tried (moveOf (rowsOf offsets targets) layer (labelsOf distances parents) (workerOf offsets left right number worker))
-      (workerOf offsets left right number worker, labelsOf distances parents)
-      (workerOf offsets left′ right number worker′, labelsOf distances parents) met
+-- `begin`: a free worker takes; so in every graph that the offsets belong to
+pub record TookFrom (worker : Worker) (offsets left right number left′ : List ℕ) (worker′ : Worker) : Type 0 where
+  pub made : (targets : List ℕ) (n : ℕ) → GraphRows offsets targets n → (layer : ℕ) (distances parents : List ℕ)
+      → moveOf (rowsOf offsets targets) layer (labelsOf distances parents) (workerOf offsets left right number worker)
+      ≡ some (workerOf offsets left′ right number worker′, labelsOf distances parents)
   pub apart : Apart (worker ∷ []) left right number left′ right number (worker′ ∷ [])
   pub phase-fits : (targets : List ℕ) (n : ℕ) → GraphRows offsets targets n → Fits offsets n (worker′ .phase)
 
 -- `stow`: a worker that has named its target inserts it and passes on
-pub record Stowed (worker : Worker) (offsets left right number left′ right′ number′ : List ℕ) (worker′ : Worker) : Type 0 where
+pub record StowedInto (worker : Worker) (offsets left right number left′ right′ number′ : List ℕ) (worker′ : Worker) : Type 0 where
   pub made : (targets : List ℕ) (n : ℕ) → GraphRows offsets targets n → Fits offsets n (worker .phase) → (layer : ℕ) (distances parents : List ℕ)
       → moveOf (rowsOf offsets targets) layer (labelsOf distances parents) (workerOf offsets left right number worker)
       ≡ some (workerOf offsets left′ right′ number′ worker′, labelsOf distances parents)
   pub apart : Apart (worker ∷ []) left right number left′ right′ number′ (worker′ ∷ [])
   pub phase-fits : (targets : List ℕ) (n : ℕ) → GraphRows offsets targets n → Fits offsets n (worker .phase) → Fits offsets n (worker′ .phase)
 
--- `work`: what it takes for granted
+-- one worker's move: what it takes for granted
 pub record Workable (worker : Worker) (layer : ℕ) (offsets targets distances parents left right number : List ℕ) : Type 0 where
   pub rows : GraphRows offsets targets (length distances)
   pub parents-all : length parents ≡ length distances
@@ -112,12 +109,11 @@ pub record Workable (worker : Worker) (layer : ℕ) (offsets targets distances p
   -- a node is free for what it is about to insert
   pub room : (u e t : ℕ) → worker .phase ≡ Named u e t → getD left 0 0 ≡ 0 → ⊥
 
--- what `work` promises: worker and labels are moved as the table says
+-- and what it does: worker and labels are moved as the table says
 pub record Worked (worker : Worker) (layer : ℕ)
-    (offsets targets distances parents left right number distances′ parents′ left′ right′ number′ : List ℕ) (worker′ : Worker) (met : Bool) : Type 0 where
-  pub tried : Tried (moveOf (rowsOf offsets targets) layer (labelsOf distances parents) (workerOf offsets left right number worker))
-      (workerOf offsets left right number worker, labelsOf distances parents)
-      (workerOf offsets left′ right′ number′ worker′, labelsOf distances′ parents′) met
+    (offsets targets distances parents left right number distances′ parents′ left′ right′ number′ : List ℕ) (worker′ : Worker) : Type 0 where
+  pub made : moveOf (rowsOf offsets targets) layer (labelsOf distances parents) (workerOf offsets left right number worker)
+      ≡ some (workerOf offsets left′ right′ number′ worker′, labelsOf distances′ parents′)
   pub apart : Apart (worker ∷ []) left right number left′ right′ number′ (worker′ ∷ [])
   pub phase-fits : Fits offsets (length distances) (worker′ .phase)
 
@@ -125,14 +121,10 @@ pub record Worked (worker : Worker) (layer : ℕ)
 
 -- the worker with another bag
 abbrev pub withInput : Worker → bag.Bag → Worker
-withInput w b = record { input = b; output = w .output; phase = w .phase }
+withInput w b = workerFrom b (w .output) (w .phase)
 
 abbrev pub withOutput : Worker → bag.Bag → Worker
-withOutput w b = record { input = w .input; output = b; phase = w .phase }
-
--- "An event whose condition isn't met changes nothing."
-abbrev pub unmetPair : Worker → Worker → Pair
-unmetPair w v = record { first = w; second = v; met = false }
+withOutput w b = workerFrom (w .input) b (w .phase)
 
 -- a state of two workers alone
 abbrev pub twoState : model.Worker → model.Worker → model.State
@@ -151,13 +143,12 @@ splitPair x y = twoOf (act [] (twoState x y) (Split 0 1))
 unfoldable pub unitePair : model.Worker → model.Worker → Option (model.Worker × model.Worker)
 unitePair x y = twoOf (act [] (twoState x y) (Unite 0 1))
 
--- `split` and `unite`: w and v after it, by the rule; numbers stay where they are
+-- w and v after an exchange, by the rule; numbers stay where they are
 pub record Exchanged (rule : model.Worker → model.Worker → Option (model.Worker × model.Worker)) (w v : Worker) (left right left′ right′ : List ℕ)
-    (w′ v′ : Worker) (met : Bool) : Type 0 where
-  pub tried : (offsets number : List ℕ)
-      → Tried (rule (workerOf offsets left right number w) (workerOf offsets left right number v))
-      (workerOf offsets left right number w, workerOf offsets left right number v)
-      (workerOf offsets left′ right′ number w′, workerOf offsets left′ right′ number v′) met
+    (w′ v′ : Worker) : Type 0 where
+  pub made : (offsets number : List ℕ)
+      → rule (workerOf offsets left right number w) (workerOf offsets left right number v)
+      ≡ some (workerOf offsets left′ right′ number w′, workerOf offsets left′ right′ number v′)
   pub moved : Moved left right (bagsOf (w ∷ v ∷ [])) left′ right′ (bagsOf (w′ ∷ v′ ∷ []))
   pub first-phase : w′ .phase ≡ w .phase
   pub second-phase : v′ .phase ≡ v .phase
@@ -168,21 +159,38 @@ pub record Exchanged (rule : model.Worker → model.Worker → Option (model.Wor
 abbrev pub NoInputs : List Worker → Type 0
 NoInputs crew = (d : Worker) (w : ℕ) → w < length crew → getD crew w d .input .slots ≡ emptySlots
 
--- `gather`: what it takes for granted
+-- what gathering takes for granted
 pub record Gatherable (crew : List Worker) (left right : List ℕ) : Type 0 where
   pub some-worker : 1 ≤ length crew
   pub pool : Pooled left right (bagsOf crew)
   pub idle : (offsets number : List ℕ) → allIdle (workersOf offsets left right number crew) ≡ true
 
--- what `gather` promises: output bags united in order
+-- and what it does: output bags united in order
 pub record Gathered (crew : List Worker) (left right left′ right′ slots : List ℕ) : Type 0 where
   pub united : (offsets number : List ℕ) → heldBy left′ right′ number slots ≡ unitedOutputs (workersOf offsets left right number crew)
   pub moved : Moved left right (bagsOf crew) left′ right′ (slots ∷ [])
 
+-- `gather`: bags united in order into a first one
+pub record GatheredBags (first : List ℕ) (bags : List (List ℕ)) (left right left′ right′ slots : List ℕ) : Type 0 where
+  pub united : (number : List ℕ) → heldBy left′ right′ number slots ≡ foldl bagUnion (heldBy left right number first) (map (heldBy left right number) bags)
+  pub moved : Moved left right (first ∷ bags) left′ right′ (slots ∷ [])
+
+-- 1 for a worker that isn't idle: whether it is depends on no list
+unfoldable pub activityOf : Worker → ℕ
+activityOf worker = cond (isIdle (workerOf [] [] [] [] worker)) 0 1
+
+-- an empty bag
+abbrev pub emptyBagOf : bag.Bag
+emptyBagOf = record { slots = emptySlots }
+
 -- a worker with nothing to do
 abbrev pub idleOne : Worker
-idleOne = record { input = record { slots = emptySlots }; output = record { slots = emptySlots }; phase = Free }
+idleOne = workerFrom emptyBagOf emptyBagOf Free
 
--- `opened`: all workers as a layer opens, with this bag as worker 0's input bag
+-- all workers' phases, free
+abbrev pub allFree : List Phase
+allFree = replicate maxWorkers Free
+
+-- all workers as a layer opens, with this bag as worker 0's input bag
 abbrev pub openedCrew : bag.Bag → List Worker
 openedCrew b = set (replicate maxWorkers idleOne) 0 (withInput idleOne b)

@@ -1,43 +1,56 @@
-// The workers of a search: what one of them does at an event, what two do, and what all do at a
-// close. These are inner steps: they may assume what their callers prove.
+// The workers of a search: what one of them does at an event, when two may exchange bags, and what all
+// do at a close. All workers' input bags, output bags and phases stand in three arrays, so that an
+// event stores what it changes and nothing else. These are inner steps: they may assume what their
+// callers prove.
 use bag::Bag;
 
 mod crew;
 mod moves;
 
+pub use crew::activity;
+pub use crew::all_free;
 pub use crew::all_idle;
+pub use crew::can_split;
+pub use crew::can_unite;
+pub use crew::first_of_eight;
 pub use crew::gather;
-pub use crew::opened;
-pub use crew::split;
-pub use crew::unite;
-pub use moves::work;
+pub use moves::advance;
+pub use moves::begin;
+pub use moves::stow;
 
 // "A worker is free, holds a device with a link to look at, or is partway through a link": the
 // vertex, its edge by its place in the targets, and the edge's target.
 pub enum Phase {
     Free,
-    Holding { vertex: u16, edge: u16 },
-    InHand { vertex: u16, edge: u16, target: u16 },
-    Marked { vertex: u16, edge: u16, target: u16 },
-    Named { vertex: u16, edge: u16, target: u16 },
+    Holding {
+        vertex: u16,
+        edge: usize,
+    },
+    InHand {
+        vertex: u16,
+        edge: usize,
+        target: u16,
+    },
+    Marked {
+        vertex: u16,
+        edge: usize,
+        target: u16,
+    },
+    Named {
+        vertex: u16,
+        edge: usize,
+        target: u16,
+    },
 }
 
-// A worker: its input bag, its output bag and its phase.
-pub struct Worker {
+// What is left in the input bag of a worker that has taken from it, and the worker's phase.
+pub struct Begun {
     pub input: Bag,
-    pub output: Bag,
     pub phase: Phase,
 }
 
-// A worker after a move, and whether the move's condition was met.
-pub struct Turned {
-    pub worker: Worker,
-    pub met: bool,
-}
-
-// The two workers of an event after it, and whether its condition was met.
-pub struct Pair {
-    pub first: Worker,
-    pub second: Worker,
-    pub met: bool,
+// The output bag of a worker that has stowed its target, and the worker's phase.
+pub struct Stowed {
+    pub output: Bag,
+    pub phase: Phase,
 }

@@ -1,19 +1,17 @@
 -- `bag::at_least_two` meets its contract: a slot past slot 0 is filled.
 use borrow.Author.Needs.{needs}
 use mathlib.Core.Path.{ap, _∙_}
-use Prim.Native.Nat.{ℕ}
-use lib.Dec.{ltb}
-use Rattle.bag.proofs.FilledFacts.{two-found}
+use mathlib.Core.Bool.{not}
+use Rattle.bag.specs.Nodes.{nodesOf}
+use Rattle.bag.proofs.FilledFacts.{two-past}
 use Rattle.bag.proofs.at_least_two.Statement.{statement}
 use Rattle.bag.proofs.at_least_two.Tie as tie
 
-first-filled-requires : tie.Need-first-filled-requires
-first-filled-requires c κs = search needs
+none-from-requires : tie.Need-none-from-requires
+none-from-requires c κs = search needs
 
 returns : tie.Need-returns
-returns c =
-    let slots = c .before .args .bag .slots in
-    λ left right. ap (λ (k : ℕ). ltb k 16) (c .first-filled .ensures) ∙ two-found left right slots (search needs)
+returns c = λ left right. ap not (c .none-from .ensures left right) ∙ two-past (nodesOf left right (c .before .args .bag .slots))
 
 pub at-least-two-spec : {M : Type 1} → statement M
-at-least-two-spec = tie.close (tie.spec first-filled-requires returns)
+at-least-two-spec = tie.close (tie.spec none-from-requires returns)

@@ -1,6 +1,5 @@
 -- `bag::adder::entry` meets its contract: the table is the one that the proofs go by.
 use borrow.Author.Needs.{needs}
-use mathlib.Core.Path.{refl}
 use Rattle.bag.proofs.adder.entry.Statement.{statement}
 use Rattle.bag.proofs.adder.entry.Tie as tie
 
@@ -10,14 +9,14 @@ mul-entries c = search needs
 array-copy-out-entries : tie.Need-array-copy-out-entries
 array-copy-out-entries c = search needs
 
-mul-result : tie.Need-mul-result
-mul-result c = search needs
+array-read-wide : tie.Need-array-read-wide
+array-read-wide c = search needs
 
-array-read-result : tie.Need-array-read-result
-array-read-result c = search needs
+wide-requires : tie.Need-wide-requires
+wide-requires c κs = search needs
 
 returns : tie.Need-returns
-returns c = refl
+returns c = c .wide .ensures
 
 pub entry-spec : {M : Type 1} → statement M
-entry-spec = tie.close (tie.spec mul-entries array-copy-out-entries mul-result array-read-result returns)
+entry-spec = tie.close (tie.spec mul-entries array-copy-out-entries array-read-wide wide-requires returns)

@@ -1,45 +1,60 @@
--- `engine::run::run` meets its contract. The invariant: the engine's values are those of the model's run over the bytes so far, and the lists have
--- the lengths they had. The measure is the bytes that are left.
+-- `engine::run::run` meets its contract. The invariant: the engine's values are those of the model's run over the bytes so far, the count of workers
+-- that are not idle is right, and the lists have the lengths they had. The measure is the bytes that are left.
 use borrow.Author.Needs.{needs}
+use borrow.Author.Tests.{not-true, not-false}
 use native.Mathlib.Omega.{arith}
-use mathlib.Core.Path.{_≡_, sym, _∙_}
-use mathlib.Core.Bool.{true}
-use Prim.Native.Nat.{_-_}
-use lib.ListN.{length, take}
+use mathlib.Core.Path.{_≡_, refl, sym, ap, _∙_}
+use mathlib.Core.Bool.{true, false}
+use mathlib.Core.List.{List}
+use Prim.Native.Nat.{ℕ, _-_, _<_}
+use lib.ListN.{length, take, getD}
+use denote.Enum.Declared.{tagOf}
+use Rattle.pennant.specs.Bag.{isEmpty}
+use Rattle.bag.specs.Nodes.{nodesOf}
 use Rattle.schedule.specs.declared.Event.{Event}
 use Rattle.schedule.specs.declared.Event.the-variants.{Work, Split, Unite, Close}
 use Rattle.model.specs.Table.{allIdle}
-use Rattle.workers.specs.Shown.{workersOf}
-use Rattle.workers.proofs.CrewFacts.{pastCrew}
-use Rattle.engine.proofs.PlayingFacts.{SameLengths, same-all, same-then, same-start, same-links, Placed, Playing, Turn, placed, layer-fits}
-use Rattle.engine.proofs.PlayingFacts.{used-fits, staffed, effective-fits, malformed-on}
+use Rattle.workers.specs.declared.Phase.the-variants.{Free}
+use Rattle.workers.specs.Shown.{crewOf, workersOf}
+use Rattle.workers.specs.Steps.{Between, emptyBagOf}
+use Rattle.workers.proofs.Phase.{the-type}
+use Rattle.workers.proofs.MoveFacts.{between-others}
+use Rattle.workers.proofs.PartsFacts.{pastBag, firstOfEight, opened-as}
+use Rattle.engine.proofs.PlayingFacts.{SameLengths, same-all, same-then, same-start, same-left, same-labels, same-nodes, same-links, Turn, placed, layer-fits}
+use Rattle.engine.proofs.PlayingFacts.{used-fits, staffed, effective-fits}
 use Rattle.engine.proofs.StartFacts.{source-there, start-on}
-use Rattle.engine.proofs.WorkFacts.{work-able, work-on}
-use Rattle.engine.proofs.PairFacts.{splitting, uniting, pair-pool, pair-on}
-use Rattle.engine.proofs.CloseFacts.{gather-able, spent-ran, close-unmet, raised-on, ended-ran}
+use Rattle.engine.proofs.CloseFacts.{spent-ran}
+use Rattle.engine.proofs.BusyFacts.{busy-few, manned-opened}
+use Rattle.engine.proofs.EventFacts.{Going, begin-able, rest-on, filled-some, begun-on, held-some, named-held, stow-able, stowed-on, between-held}
+use Rattle.engine.proofs.EventFacts.{advance-able, advanced-on, split-able, split-unmet-on, split-on, unite-able, unite-unmet-on, unite-on}
+use Rattle.engine.proofs.EventFacts.{busy-on, busy-told, gather-pooled, opened-on, finished-ran, strange-on}
 use Rattle.engine.proofs.run.run.Statement.{statement}
 use Rattle.engine.proofs.run.run.Tie as tie
 
 abbrev Inv-loop : tie.InvT-loop
-Inv-loop source workers schedule offsets targets distances₀ parents₀ left₀ right₀ number₀ crew₀ used₀ effective₀ layer₀
-    distances parents left right number crew used effective layer =
-    Playing source workers schedule offsets targets distances parents left right number crew used effective layer
+Inv-loop source workers schedule offsets targets distances₀ parents₀ left₀ right₀ number₀ busy₀ inputs₀ outputs₀ phases₀ used₀ effective₀ layer₀
+    distances parents left right number busy inputs outputs phases used effective layer =
+    Going source workers schedule offsets targets distances parents left right number inputs outputs phases busy used effective layer
     × SameLengths distances₀ parents₀ left₀ right₀ number₀ distances parents left right number
 
 abbrev μ-loop : tie.MeasureT-loop
-μ-loop source workers schedule offsets targets distances₀ parents₀ left₀ right₀ number₀ crew₀ used₀ effective₀ layer₀
-    distances parents left right number crew used effective layer =
+μ-loop source workers schedule offsets targets distances₀ parents₀ left₀ right₀ number₀ busy₀ inputs₀ outputs₀ phases₀ used₀ effective₀ layer₀
+    distances parents left right number busy inputs outputs phases used effective layer =
     length schedule - used
 
 -- Places that the needs look back to.
 
--- the call of `open`, from that of `opened`
-abbrev opening : tie.After-opened Inv-loop μ-loop → tie.After-open Inv-loop μ-loop
-opening c = c .before .before .before .before .before .before .before .before .before .before .before
-
 -- the start, from the call of `open`
 abbrev start : tie.After-open Inv-loop μ-loop → tie.Start Inv-loop μ-loop
 start c = c .before .before .before .before .before .before .before .before .before .before .before .before .before .before
+
+-- the call of `open`, from the loop
+abbrev opening : tie.After-all-free Inv-loop μ-loop → tie.After-open Inv-loop μ-loop
+opening c = c .before .before .before .before .before .before .before .before .before .before .before .before .before .before .before
+
+-- the loop's head, from a decoded byte
+abbrev head : tie.After-decode Inv-loop μ-loop → tie.At-loop Inv-loop μ-loop
+head c = c .before .before .before
 
 -- the start, from the loop's head
 abbrev start-of : tie.At-loop Inv-loop μ-loop → tie.Start Inv-loop μ-loop
@@ -59,21 +74,21 @@ lengths : (c : tie.At-loop Inv-loop μ-loop) → let args = start-of c .args in
     (now .right) (now .number)
 lengths c = same-then (opened-lengths (opening (c .before))) (c .loop .inv .1)
 
--- the loop's head, from a decoded byte
-abbrev head : tie.After-decode Inv-loop μ-loop → tie.At-loop Inv-loop μ-loop
-head c = c .before .before .before
-
 -- a turn whose byte says e
 abbrev Turn-at : tie.In-loop Inv-loop μ-loop → Event → Type 0
 Turn-at c e =
     let args = start-of (c .before) .args in
     let now = c .before .loop in
     Turn (args .source) (args .workers) (args .schedule .now) (args .offsets .now) (args .targets .now) (now .distances) (now .parents) (now .left) (now .right)
-    (now .number) (now .crew) (now .used) (now .effective) (now .layer) e
+    (now .number) (crewOf (now .inputs) (now .outputs) (now .phases)) (now .used) (now .effective) (now .layer) e
 
 -- by what was decoded
 turn : (c : tie.After-decode Inv-loop μ-loop) {e : Event} → c .decode .result ≡ e → Turn-at (c .before .before) e
-turn c said = record { playing = c .before .before .before .loop .inv .0; below = c .before .before .loop-test .taken; event = sym (c .decode .ensures) ∙ said }
+turn c said = record {
+  playing = head c .loop .inv .0 .playing;
+  below = c .before .before .loop-test .taken;
+  event = sym (c .decode .ensures) ∙ said;
+}
 
 -- .. that it is work
 work-turn : (c : tie.After-event Inv-loop μ-loop) → Turn-at (c .before .before .before .before) (Work (c .event .given .0 .0))
@@ -88,77 +103,303 @@ unite-turn : (c : tie.After-event3 Inv-loop μ-loop) → Turn-at (c .before .bef
 unite-turn c = turn (c .before .before) (c .event3 .given .1)
 
 -- .. a close
-close-turn : (c : tie.After-enum-told Inv-loop μ-loop) → Turn-at (c .before .before .before .before) Close
-close-turn c = turn (c .before .before) (c .enum-told .given .1)
+close-turn : (c : tie.After-enum-told2 Inv-loop μ-loop) → Turn-at (c .before .before .before .before) Close
+close-turn c = turn (c .before .before) (c .enum-told2 .given .1)
 
 -- the place of its worker
-work-place : (c : tie.After-event Inv-loop μ-loop) → Placed (c .event .given .0 .0)
+work-place : (c : tie.After-event Inv-loop μ-loop) → c .event .given .0 .0 < 8
 work-place c = placed (work-turn c .playing) (staffed (work-turn c))
 
 -- the places of a split's workers
-split-places : (c : tie.After-event2 Inv-loop μ-loop) → Placed (c .event2 .given .0 .0) × Placed (c .event2 .given .0 .1 .0)
-split-places c = let there = staffed (split-turn c) in (placed (split-turn c .playing) (there .0), placed (split-turn c .playing) (there .1))
+split-places : (c : tie.After-event2 Inv-loop μ-loop) → (c .event2 .given .0 .0 < 8) × (c .event2 .given .0 .1 .0 < 8)
+split-places c = (placed (split-turn c .playing) (staffed (split-turn c) .0), placed (split-turn c .playing) (staffed (split-turn c) .1))
 
 -- the places of a union's workers
-unite-places : (c : tie.After-event3 Inv-loop μ-loop) → Placed (c .event3 .given .0 .0) × Placed (c .event3 .given .0 .1 .0)
-unite-places c = let there = staffed (unite-turn c) in (placed (unite-turn c .playing) (there .0), placed (unite-turn c .playing) (there .1))
+unite-places : (c : tie.After-event3 Inv-loop μ-loop) → (c .event3 .given .0 .0 < 8) × (c .event3 .given .0 .1 .0 < 8)
+unite-places c = (placed (unite-turn c .playing) (staffed (unite-turn c) .0), placed (unite-turn c .playing) (staffed (unite-turn c) .1))
 
--- the event, from the arguments of the call of `work`
-abbrev work-event : tie.After-work-arg6 Inv-loop μ-loop → tie.After-event Inv-loop μ-loop
-work-event c = c .before .before .before .before .before .before .before
+-- the worker's input bag is empty, or not
+rested : (c : tie.Else1 Inv-loop μ-loop) → let now = c .before .before .before .before .before .before .before .before .before .before .before .before .loop in
+    isEmpty (nodesOf (now .left) (now .right) (getD (now .inputs) (c .before .before .before .before .before .before .before .event .given .0 .0) pastBag .slots)) ≡ true
+rested c = sym (c .before .is-empty .ensures _ _) ∙ not-false _ (c .if1 .left)
 
--- that call, from what follows it
-abbrev work-call : tie.After-after Inv-loop μ-loop → tie.After-work Inv-loop μ-loop
-work-call c = c .before .before .before .before .before .before .before .before .before .before .before
+filled : (c : tie.Then1 Inv-loop μ-loop) → let now = c .before .before .before .before .before .before .before .before .before .before .before .before .loop in
+    isEmpty (nodesOf (now .left) (now .right) (getD (now .inputs) (c .before .before .before .before .before .before .before .event .given .0 .0) pastBag .slots)) ≡ false
+filled c = sym (c .before .is-empty .ensures _ _) ∙ not-true _ (c .if1 .taken)
 
--- the event, from the arguments of the call of `split`
-abbrev split-event : tie.After-split-arg4 Inv-loop μ-loop → tie.After-event2 Inv-loop μ-loop
-split-event c = c .before .before .before .before .before
-
--- that call, from what follows it
-abbrev split-call : tie.After-second Inv-loop μ-loop → tie.After-split Inv-loop μ-loop
-split-call c = c .before .before .before .before .before .before
-
--- the event, from the arguments of the call of `unite`
-abbrev unite-event : tie.After-unite-arg4 Inv-loop μ-loop → tie.After-event3 Inv-loop μ-loop
-unite-event c = c .before .before .before .before .before
-
--- that call, from what follows it
-abbrev unite-call : tie.After-second2 Inv-loop μ-loop → tie.After-unite Inv-loop μ-loop
-unite-call c = c .before .before .before .before .before .before
-
--- the event, from the call of `gather`
-abbrev gather-told : tie.After-gather Inv-loop μ-loop → tie.After-enum-told Inv-loop μ-loop
-gather-told c = c .before .before .before .before .before
-
--- that call, from what follows it
-abbrev gather-call : tie.After-slice-known21 Inv-loop μ-loop → tie.After-gather Inv-loop μ-loop
-gather-call c = c .before .before .before .before
+-- the phase is one between
+between : (c : tie.At-match3-keys2 Inv-loop μ-loop) → Between (getD (c .before .before .before .before .before .before .before .before .before .loop .phases) (c .before .before .before .before .event .given .0 .0) Free)
+between c =
+    between-others (tagOf the-type) refl (λ u e t. refl)
+    (getD (c .before .before .before .before .before .before .before .before .before .loop .phases) (c .before .before .before .before .event .given .0 .0) Free) (c .before .match2 .keys2) (c .match3 .keys2)
 
 -- the workers were found idle before they gathered
-idle-told : (c : tie.After-gather Inv-loop μ-loop) → let at = head (gather-told c .before .before) in
-    let args = start-of at .args in
+idle-told : (c : tie.Then5 Inv-loop μ-loop) → let at = c .before .before .before .before .before .before .before .before in
     let now = at .loop in
-    allIdle (workersOf (args .offsets .now) (now .left) (now .right) (now .number) (take (args .workers) (now .crew))) ≡ true
-idle-told c =
-    let at = head (gather-told c .before .before) in
-    let tested = c .before .before .before in
-    sym (tested .before .all-idle .ensures .0 (start-of at .args .offsets .now) _ _ (at .loop .number)) ∙ tested .if1 .taken
+    (offsets number : List ℕ) → allIdle (workersOf offsets (now .left) (now .right) number (take (start-of at .args .workers) (crewOf (now .inputs) (now .outputs) (now .phases)))) ≡ true
+idle-told c offsets number =
+    let at = c .before .before .before .before .before .before .before .before in
+    sym (c .before .all-idle .ensures .0 (at .loop .outputs) (at .loop .inv .0 .manned .even .outputs-long) offsets _ _ number) ∙ c .if5 .taken
+
+-- Further ones, named by what is there and where from.
+
+abbrev start-of-open-arg5 : tie.After-open-arg5 Inv-loop μ-loop → tie.Start Inv-loop μ-loop
+start-of-open-arg5 c = c .before .before .before .before .before .before .before .before .before .before .before .before .before
+
+abbrev activity-of-all-free : tie.After-all-free Inv-loop μ-loop → tie.After-activity Inv-loop μ-loop
+activity-of-all-free c = c .before .before .before .before
+
+abbrev event-of-enum-told : tie.After-enum-told Inv-loop μ-loop → tie.After-event Inv-loop μ-loop
+event-of-enum-told c = c .before .before .before .before
+
+abbrev event-of-taken1 : tie.Then1 Inv-loop μ-loop → tie.After-event Inv-loop μ-loop
+event-of-taken1 c = c .before .before .before .before .before .before .before
+
+abbrev taken1-of-begin-arg4 : tie.After-begin-arg4 Inv-loop μ-loop → tie.Then1 Inv-loop μ-loop
+taken1-of-begin-arg4 c = c .before .before .before .before
+
+abbrev event-of-begin-arg4 : tie.After-begin-arg4 Inv-loop μ-loop → tie.After-event Inv-loop μ-loop
+event-of-begin-arg4 c = c .before .before .before .before .before .before .before .before .before .before .before
+
+abbrev loop-of-begin-arg4 : tie.After-begin-arg4 Inv-loop μ-loop → tie.At-loop Inv-loop μ-loop
+loop-of-begin-arg4 c = c .before .before .before .before .before .before .before .before .before .before .before .before .before .before .before .before
+
+abbrev event-of-rest : tie.After-rest Inv-loop μ-loop → tie.After-event Inv-loop μ-loop
+event-of-rest c = c .before .before .before .before .before .before .before .before .before .before .before .before .before .before .before
+
+abbrev begin-of-activity2 : tie.After-activity2 Inv-loop μ-loop → tie.After-begin Inv-loop μ-loop
+begin-of-activity2 c = c .before .before .before .before
+
+abbrev taken1-of-activity2 : tie.After-activity2 Inv-loop μ-loop → tie.Then1 Inv-loop μ-loop
+taken1-of-activity2 c = c .before .before .before .before .before .before .before .before .before
+
+abbrev enum-told-of-activity2 : tie.After-activity2 Inv-loop μ-loop → tie.After-enum-told Inv-loop μ-loop
+enum-told-of-activity2 c = c .before .before .before .before .before .before .before .before .before .before .before .before
+
+abbrev event-of-activity2 : tie.After-activity2 Inv-loop μ-loop → tie.After-event Inv-loop μ-loop
+event-of-activity2 c = c .before .before .before .before .before .before .before .before .before .before .before .before .before .before .before .before
+
+abbrev loop-of-activity2 : tie.After-activity2 Inv-loop μ-loop → tie.At-loop Inv-loop μ-loop
+loop-of-activity2 c = c .before .before .before .before .before .before .before .before .before .before .before .before .before .before .before .before .before .before .before .before .before
+
+abbrev event-of-left1 : tie.Else1 Inv-loop μ-loop → tie.After-event Inv-loop μ-loop
+event-of-left1 c = c .before .before .before .before .before .before .before
+
+abbrev loop-of-left1 : tie.Else1 Inv-loop μ-loop → tie.At-loop Inv-loop μ-loop
+loop-of-left1 c = c .before .before .before .before .before .before .before .before .before .before .before .before
+
+abbrev event-of-known-told2 : tie.After-known-told2 Inv-loop μ-loop → tie.After-event Inv-loop μ-loop
+event-of-known-told2 c = c .before .before .before .before .before .before
+
+abbrev phase2-of-stow-arg4 : tie.After-stow-arg4 Inv-loop μ-loop → tie.After-phase2 Inv-loop μ-loop
+phase2-of-stow-arg4 c = c .before .before .before .before .before
+
+abbrev event-of-stow-arg4 : tie.After-stow-arg4 Inv-loop μ-loop → tie.After-event Inv-loop μ-loop
+event-of-stow-arg4 c = c .before .before .before .before .before .before .before .before .before .before
+
+abbrev loop-of-stow-arg4 : tie.After-stow-arg4 Inv-loop μ-loop → tie.At-loop Inv-loop μ-loop
+loop-of-stow-arg4 c = c .before .before .before .before .before .before .before .before .before .before .before .before .before .before .before
+
+abbrev event-of-more : tie.After-more Inv-loop μ-loop → tie.After-event Inv-loop μ-loop
+event-of-more c = c .before .before .before .before .before .before .before .before .before .before .before .before .before .before .before .before .before .before
+
+abbrev stow-of-activity3 : tie.After-activity3 Inv-loop μ-loop → tie.After-stow Inv-loop μ-loop
+stow-of-activity3 c = c .before .before .before .before .before .before .before .before .before
+
+abbrev phase2-of-activity3 : tie.After-activity3 Inv-loop μ-loop → tie.After-phase2 Inv-loop μ-loop
+phase2-of-activity3 c = c .before .before .before .before .before .before .before .before .before .before .before .before .before .before .before
+
+abbrev event-of-activity3 : tie.After-activity3 Inv-loop μ-loop → tie.After-event Inv-loop μ-loop
+event-of-activity3 c = c .before .before .before .before .before .before .before .before .before .before .before .before .before .before .before .before .before .before .before .before
+
+abbrev loop-of-activity3 : tie.After-activity3 Inv-loop μ-loop → tie.At-loop Inv-loop μ-loop
+loop-of-activity3 c = c .before .before .before .before .before .before .before .before .before .before .before .before .before .before .before .before .before .before .before .before .before .before .before .before .before
+
+abbrev event-of-advance-arg2 : tie.After-advance-arg2 Inv-loop μ-loop → tie.After-event Inv-loop μ-loop
+event-of-advance-arg2 c = c .before .before .before .before .before .before
+
+abbrev loop-of-advance-arg2 : tie.After-advance-arg2 Inv-loop μ-loop → tie.At-loop Inv-loop μ-loop
+loop-of-advance-arg2 c = c .before .before .before .before .before .before .before .before .before .before .before
+
+abbrev event-of-slice-known16 : tie.After-slice-known16 Inv-loop μ-loop → tie.After-event Inv-loop μ-loop
+event-of-slice-known16 c = c .before .before .before .before .before .before .before .before .before .before .before
+
+abbrev advance-of-activity4 : tie.After-activity4 Inv-loop μ-loop → tie.After-advance Inv-loop μ-loop
+advance-of-activity4 c = c .before .before .before .before .before .before
+
+abbrev match3-keys2-of-activity4 : tie.After-activity4 Inv-loop μ-loop → tie.At-match3-keys2 Inv-loop μ-loop
+match3-keys2-of-activity4 c = c .before .before .before .before .before .before .before .before .before
+
+abbrev event-of-activity4 : tie.After-activity4 Inv-loop μ-loop → tie.After-event Inv-loop μ-loop
+event-of-activity4 c = c .before .before .before .before .before .before .before .before .before .before .before .before .before
+
+abbrev loop-of-activity4 : tie.After-activity4 Inv-loop μ-loop → tie.At-loop Inv-loop μ-loop
+loop-of-activity4 c = c .before .before .before .before .before .before .before .before .before .before .before .before .before .before .before .before .before .before
+
+abbrev event2-of-taken2 : tie.Then2 Inv-loop μ-loop → tie.After-event2 Inv-loop μ-loop
+event2-of-taken2 c = c .before .before .before .before .before
+
+abbrev event2-of-activity-arg3 : tie.After-activity-arg3 Inv-loop μ-loop → tie.After-event2 Inv-loop μ-loop
+event2-of-activity-arg3 c = c .before .before .before .before .before .before
+
+abbrev event2-of-activity5 : tie.After-activity5 Inv-loop μ-loop → tie.After-event2 Inv-loop μ-loop
+event2-of-activity5 c = c .before .before .before .before .before .before .before .before
+
+abbrev event2-of-split-arg3 : tie.After-split-arg3 Inv-loop μ-loop → tie.After-event2 Inv-loop μ-loop
+event2-of-split-arg3 c = c .before .before .before .before .before .before .before .before .before .before .before
+
+abbrev loop-of-split-arg3 : tie.After-split-arg3 Inv-loop μ-loop → tie.At-loop Inv-loop μ-loop
+loop-of-split-arg3 c = c .before .before .before .before .before .before .before .before .before .before .before .before .before .before .before .before
+
+abbrev split-of-given : tie.After-given Inv-loop μ-loop → tie.After-split Inv-loop μ-loop
+split-of-given c = c .before .before .before .before .before .before
+
+abbrev activity5-of-given : tie.After-given Inv-loop μ-loop → tie.After-activity5 Inv-loop μ-loop
+activity5-of-given c = c .before .before .before .before .before .before .before .before .before .before
+
+abbrev taken2-of-given : tie.After-given Inv-loop μ-loop → tie.Then2 Inv-loop μ-loop
+taken2-of-given c = c .before .before .before .before .before .before .before .before .before .before .before .before .before
+
+abbrev can-split-of-given : tie.After-given Inv-loop μ-loop → tie.After-can-split Inv-loop μ-loop
+can-split-of-given c = c .before .before .before .before .before .before .before .before .before .before .before .before .before .before
+
+abbrev event2-of-given : tie.After-given Inv-loop μ-loop → tie.After-event2 Inv-loop μ-loop
+event2-of-given c = c .before .before .before .before .before .before .before .before .before .before .before .before .before .before .before .before .before .before
+
+abbrev loop-of-given : tie.After-given Inv-loop μ-loop → tie.At-loop Inv-loop μ-loop
+loop-of-given c = c .before .before .before .before .before .before .before .before .before .before .before .before .before .before .before .before .before .before .before .before .before .before .before
+
+abbrev event2-of-left2 : tie.Else2 Inv-loop μ-loop → tie.After-event2 Inv-loop μ-loop
+event2-of-left2 c = c .before .before .before .before .before
+
+abbrev loop-of-left2 : tie.Else2 Inv-loop μ-loop → tie.At-loop Inv-loop μ-loop
+loop-of-left2 c = c .before .before .before .before .before .before .before .before .before .before
+
+abbrev event3-of-taken3 : tie.Then3 Inv-loop μ-loop → tie.After-event3 Inv-loop μ-loop
+event3-of-taken3 c = c .before .before .before .before .before
+
+abbrev event3-of-union-arg : tie.After-union-arg Inv-loop μ-loop → tie.After-event3 Inv-loop μ-loop
+event3-of-union-arg c = c .before .before .before .before .before .before
+
+abbrev event3-of-union-arg4 : tie.After-union-arg4 Inv-loop μ-loop → tie.After-event3 Inv-loop μ-loop
+event3-of-union-arg4 c = c .before .before .before .before .before .before .before .before .before
+
+abbrev loop-of-union-arg4 : tie.After-union-arg4 Inv-loop μ-loop → tie.At-loop Inv-loop μ-loop
+loop-of-union-arg4 c = c .before .before .before .before .before .before .before .before .before .before .before .before .before .before
+
+abbrev event3-of-slice-known20 : tie.After-slice-known20 Inv-loop μ-loop → tie.After-event3 Inv-loop μ-loop
+event3-of-slice-known20 c = c .before .before .before .before .before .before .before .before .before .before .before .before .before .before
+
+abbrev union-of-empty2 : tie.After-empty2 Inv-loop μ-loop → tie.After-union Inv-loop μ-loop
+union-of-empty2 c = c .before .before .before .before .before
+
+abbrev taken3-of-empty2 : tie.After-empty2 Inv-loop μ-loop → tie.Then3 Inv-loop μ-loop
+taken3-of-empty2 c = c .before .before .before .before .before .before .before .before .before .before
+
+abbrev can-unite-of-empty2 : tie.After-empty2 Inv-loop μ-loop → tie.After-can-unite Inv-loop μ-loop
+can-unite-of-empty2 c = c .before .before .before .before .before .before .before .before .before .before .before
+
+abbrev event3-of-empty2 : tie.After-empty2 Inv-loop μ-loop → tie.After-event3 Inv-loop μ-loop
+event3-of-empty2 c = c .before .before .before .before .before .before .before .before .before .before .before .before .before .before .before
+
+abbrev loop-of-empty2 : tie.After-empty2 Inv-loop μ-loop → tie.At-loop Inv-loop μ-loop
+loop-of-empty2 c = c .before .before .before .before .before .before .before .before .before .before .before .before .before .before .before .before .before .before .before .before
+
+abbrev event3-of-left3 : tie.Else3 Inv-loop μ-loop → tie.After-event3 Inv-loop μ-loop
+event3-of-left3 c = c .before .before .before .before .before
+
+abbrev loop-of-left3 : tie.Else3 Inv-loop μ-loop → tie.At-loop Inv-loop μ-loop
+loop-of-left3 c = c .before .before .before .before .before .before .before .before .before .before
+
+abbrev enum-told2-of-gather-arg3 : tie.After-gather-arg3 Inv-loop μ-loop → tie.After-enum-told2 Inv-loop μ-loop
+enum-told2-of-gather-arg3 c = c .before .before .before .before .before .before
+
+abbrev loop-of-gather-arg3 : tie.After-gather-arg3 Inv-loop μ-loop → tie.At-loop Inv-loop μ-loop
+loop-of-gather-arg3 c = c .before .before .before .before .before .before .before .before .before .before .before
+
+abbrev enum-told2-of-slice-known22 : tie.After-slice-known22 Inv-loop μ-loop → tie.After-enum-told2 Inv-loop μ-loop
+enum-told2-of-slice-known22 c = c .before .before .before .before .before .before .before .before .before .before .before
+
+abbrev gather-of-conclude : tie.After-conclude Inv-loop μ-loop → tie.After-gather Inv-loop μ-loop
+gather-of-conclude c = c .before .before .before .before .before .before .before
+
+abbrev taken5-of-conclude : tie.After-conclude Inv-loop μ-loop → tie.Then5 Inv-loop μ-loop
+taken5-of-conclude c = c .before .before .before .before .before .before .before .before .before .before .before
+
+abbrev enum-told2-of-conclude : tie.After-conclude Inv-loop μ-loop → tie.After-enum-told2 Inv-loop μ-loop
+enum-told2-of-conclude c = c .before .before .before .before .before .before .before .before .before .before .before .before .before .before
+
+abbrev loop-of-conclude : tie.After-conclude Inv-loop μ-loop → tie.At-loop Inv-loop μ-loop
+loop-of-conclude c = c .before .before .before .before .before .before .before .before .before .before .before .before .before .before .before .before .before .before .before
+
+abbrev activity6-of-all-free2 : tie.After-all-free2 Inv-loop μ-loop → tie.After-activity6 Inv-loop μ-loop
+activity6-of-all-free2 c = c .before .before .before .before
+
+abbrev left6-of-all-free2 : tie.After-all-free2 Inv-loop μ-loop → tie.Else6 Inv-loop μ-loop
+left6-of-all-free2 c = c .before .before .before .before .before
+
+abbrev is-empty2-of-all-free2 : tie.After-all-free2 Inv-loop μ-loop → tie.After-is-empty2 Inv-loop μ-loop
+is-empty2-of-all-free2 c = c .before .before .before .before .before .before
+
+abbrev gather-of-all-free2 : tie.After-all-free2 Inv-loop μ-loop → tie.After-gather Inv-loop μ-loop
+gather-of-all-free2 c = c .before .before .before .before .before .before .before .before .before .before .before
+
+abbrev taken5-of-all-free2 : tie.After-all-free2 Inv-loop μ-loop → tie.Then5 Inv-loop μ-loop
+taken5-of-all-free2 c = c .before .before .before .before .before .before .before .before .before .before .before .before .before .before .before
+
+abbrev all-idle-of-all-free2 : tie.After-all-free2 Inv-loop μ-loop → tie.After-all-idle Inv-loop μ-loop
+all-idle-of-all-free2 c = c .before .before .before .before .before .before .before .before .before .before .before .before .before .before .before .before
+
+abbrev enum-told2-of-all-free2 : tie.After-all-free2 Inv-loop μ-loop → tie.After-enum-told2 Inv-loop μ-loop
+enum-told2-of-all-free2 c = c .before .before .before .before .before .before .before .before .before .before .before .before .before .before .before .before .before .before
+
+abbrev loop-of-all-free2 : tie.After-all-free2 Inv-loop μ-loop → tie.At-loop Inv-loop μ-loop
+loop-of-all-free2 c = c .before .before .before .before .before .before .before .before .before .before .before .before .before .before .before .before .before .before .before .before .before .before .before
+
+abbrev loop-of-left5 : tie.Else5 Inv-loop μ-loop → tie.At-loop Inv-loop μ-loop
+loop-of-left5 c = c .before .before .before .before .before .before .before .before
+
+abbrev loop-of-left4 : tie.Else4 Inv-loop μ-loop → tie.At-loop Inv-loop μ-loop
+loop-of-left4 c = c .before .before .before .before .before .before
+
+abbrev loop-of-enum-told3 : tie.After-enum-told3 Inv-loop μ-loop → tie.At-loop Inv-loop μ-loop
+loop-of-enum-told3 c = c .before .before .before .before .before
 
 -- The needs.
 
 open-requires : tie.Need-open-requires Inv-loop μ-loop
-open-requires c κs =
-    let start = c .before .before .before .before .before .before .before .before .before .before .before .before .before in
-    (source-there (start .pre), start .pre .sized)
+open-requires c κs = let s = (start-of-open-arg5 c) in (source-there (s .pre), s .pre .sized)
 
-opened-requires : tie.Need-opened-requires Inv-loop μ-loop
-opened-requires c κs = search needs
+activity-requires : tie.Need-activity-requires Inv-loop μ-loop
+activity-requires c κs = search needs
+
+first-of-eight-requires : tie.Need-first-of-eight-requires Inv-loop μ-loop
+first-of-eight-requires c κs = search needs
+
+empty-requires : tie.Need-empty-requires Inv-loop μ-loop
+empty-requires c κs = search needs
+
+first-of-eight-requires-2 : tie.Need-first-of-eight-requires-2 Inv-loop μ-loop
+first-of-eight-requires-2 c κs = search needs
+
+all-free-requires : tie.Need-all-free-requires Inv-loop μ-loop
+all-free-requires c κs = search needs
 
 loop-holds : tie.Need-loop-holds Inv-loop μ-loop
 loop-holds c =
     let entered = opening c in
-    (start-on (start entered .pre) (entered .«open» .ensures) (c .opened .ensures) (opened-lengths entered), same-start)
+    let s = start entered in
+    let b = entered .«open» .result in
+    let first : _ ≡ firstOfEight b = c .before .before .before .first-of-eight .ensures in
+    let none = c .before .first-of-eight2 .ensures ∙ ap (λ (l : List ℕ). firstOfEight (record { slots = l })) (c .before .before .empty .ensures) in
+    let free = c .all-free .ensures in
+    let active = (activity-of-all-free c) .activity .ensures .0 emptyBagOf in (
+      record {
+        playing = start-on (s .pre) (entered .«open» .ensures) (opened-as b first none free) (opened-lengths entered);
+        manned = manned-opened (s .args .workers) b (s .pre .accepted .some-worker) (s .pre .accepted .few-workers) active first none free;
+      },
+      same-start,
+    )
 
 shared-slice-read-decode : tie.Need-shared-slice-read-decode Inv-loop μ-loop
 shared-slice-read-decode c = search needs
@@ -167,239 +408,429 @@ decode-requires : tie.Need-decode-requires Inv-loop μ-loop
 decode-requires c κs = search needs
 
 add-used : tie.Need-add-used Inv-loop μ-loop
-add-used c = record { fits = used-fits (c .before .before .before .loop .inv .0) (c .before .before .loop-test .taken) }
+add-used c = record { fits = used-fits (head c .loop .inv .0 .playing) (c .before .before .loop-test .taken) }
 
 enum-known-event : tie.Need-enum-known-event Inv-loop μ-loop
 enum-known-event c = search needs
 
-mul-work : tie.Need-mul-work Inv-loop μ-loop
-mul-work c = record { fits = work-place (c .before) .fits }
+mul-phase : tie.Need-mul-phase Inv-loop μ-loop
+mul-phase c = record { fits = omega (arith, work-place (c .before)) }
 
-array-copy-out-work : tie.Need-array-copy-out-work Inv-loop μ-loop
-array-copy-out-work c = work-place (c .before) .below
+array-copy-out-phase : tie.Need-array-copy-out-phase Inv-loop μ-loop
+array-copy-out-phase c = work-place (c .before)
 
-work-requires : tie.Need-work-requires Inv-loop μ-loop
-work-requires c κs = work-able (work-turn (work-event c)) pastCrew
+enum-told : tie.Need-enum-told Inv-loop μ-loop
+enum-told c = search needs
 
-mul-crew : tie.Need-mul-crew Inv-loop μ-loop
-mul-crew c = record { fits = work-place (work-event (work-call c .before)) .fits }
+mul-is-empty : tie.Need-mul-is-empty Inv-loop μ-loop
+mul-is-empty c = record { fits = omega (arith, work-place (event-of-enum-told c)) }
 
-array-set-from-crew : tie.Need-array-set-from-crew Inv-loop μ-loop
-array-set-from-crew c = work-place (work-event (work-call c .before)) .below
+array-copy-out-is-empty : tie.Need-array-copy-out-is-empty Inv-loop μ-loop
+array-copy-out-is-empty c = work-place (event-of-enum-told c)
 
-count-requires : tie.Need-count-requires Inv-loop μ-loop
-count-requires c κs = search needs
+is-empty-requires : tie.Need-is-empty-requires Inv-loop μ-loop
+is-empty-requires c κs = search needs
+
+mul-begin : tie.Need-mul-begin Inv-loop μ-loop
+mul-begin c = record { fits = omega (arith, work-place (event-of-taken1 c)) }
+
+array-copy-out-begin : tie.Need-array-copy-out-begin Inv-loop μ-loop
+array-copy-out-begin c = work-place (event-of-taken1 c)
+
+begin-requires : tie.Need-begin-requires Inv-loop μ-loop
+begin-requires c κs = begin-able ((loop-of-begin-arg4 c) .loop .inv .0 .manned) (work-turn (event-of-begin-arg4 c)) (filled (taken1-of-begin-arg4 c))
+
+mul-inputs : tie.Need-mul-inputs Inv-loop μ-loop
+mul-inputs c = record { fits = omega (arith, work-place (event-of-rest c)) }
+
+array-set-from-inputs : tie.Need-array-set-from-inputs Inv-loop μ-loop
+array-set-from-inputs c = work-place (event-of-rest c)
+
+mul-phases : tie.Need-mul-phases Inv-loop μ-loop
+mul-phases c = record { fits = omega (arith, work-place (event-of-rest c)) }
+
+array-set-from-phases : tie.Need-array-set-from-phases Inv-loop μ-loop
+array-set-from-phases c = work-place (event-of-rest c)
+
+activity-requires-2 : tie.Need-activity-requires-2 Inv-loop μ-loop
+activity-requires-2 c κs = search needs
+
+add-busy : tie.Need-add-busy Inv-loop μ-loop
+add-busy c = record { fits = omega (arith, busy-few (work-turn (event-of-activity2 c) .playing .ready .accepted .few-workers) ((loop-of-activity2 c) .loop .inv .0 .manned), c .activity2 .ensures .1) }
+
+sub-busy : tie.Need-sub-busy Inv-loop μ-loop
+sub-busy c = omega (arith, filled-some ((loop-of-activity2 c) .loop .inv .0 .manned) (work-turn (event-of-activity2 c)) (filled (taken1-of-activity2 c)))
 
 add-effective : tie.Need-add-effective Inv-loop μ-loop
-add-effective c =
-    let worked = work-call (c .before) in
-    record { fits = effective-fits (work-turn (work-event (worked .before))) (c .count .ensures .1) }
+add-effective c = record { fits = effective-fits (work-turn (event-of-activity2 c)) }
 
 loop-less : tie.Need-loop-less Inv-loop μ-loop
 loop-less c = search needs
 
 loop-again : tie.Need-loop-again Inv-loop μ-loop
 loop-again c =
-    let worked = work-call (c .before) in
-    let event = work-event (worked .before) in
-    let same = same-all (worked .work .kept .1 .1 .1 .1) in
-    (work-on (work-turn event) pastCrew (worked .work .ensures) same (c .count .ensures .0), same-then (head (event .before .before) .loop .inv .1) same)
-
-enum-known-event-2 : tie.Need-enum-known-event-2 Inv-loop μ-loop
-enum-known-event-2 c = search needs
-
-mul-split : tie.Need-mul-split Inv-loop μ-loop
-mul-split c = record { fits = split-places (c .before) .0 .fits }
-
-array-copy-out-split : tie.Need-array-copy-out-split Inv-loop μ-loop
-array-copy-out-split c = split-places (c .before) .0 .below
-
-mul-split-2 : tie.Need-mul-split-2 Inv-loop μ-loop
-mul-split-2 c = record { fits = split-places (c .before .before) .1 .fits }
-
-array-copy-out-split-2 : tie.Need-array-copy-out-split-2 Inv-loop μ-loop
-array-copy-out-split-2 c = split-places (c .before .before) .1 .below
-
-split-requires : tie.Need-split-requires Inv-loop μ-loop
-split-requires c κs = pair-pool (splitting (split-turn (split-event c))) pastCrew
-
-mul-crew-2 : tie.Need-mul-crew-2 Inv-loop μ-loop
-mul-crew-2 c = record { fits = split-places (split-event (split-call c .before)) .1 .fits }
-
-array-set-from-crew-2 : tie.Need-array-set-from-crew-2 Inv-loop μ-loop
-array-set-from-crew-2 c = split-places (split-event (split-call c .before)) .1 .below
-
-mul-crew-3 : tie.Need-mul-crew-3 Inv-loop μ-loop
-mul-crew-3 c = record { fits = split-places (split-event (split-call c .before)) .0 .fits }
-
-array-set-from-crew-3 : tie.Need-array-set-from-crew-3 Inv-loop μ-loop
-array-set-from-crew-3 c = split-places (split-event (split-call c .before)) .0 .below
-
-count-requires-2 : tie.Need-count-requires-2 Inv-loop μ-loop
-count-requires-2 c κs = search needs
-
-add-effective-2 : tie.Need-add-effective-2 Inv-loop μ-loop
-add-effective-2 c =
-    let made = split-call (c .before) in
-    record { fits = effective-fits (split-turn (split-event (made .before))) (c .count2 .ensures .1) }
+    let begun = (begin-of-activity2 c) in
+    let same = same-left (begun .begin .kept .1 .1) in (
+      begun-on ((loop-of-activity2 c) .loop .inv .0 .manned) (work-turn (event-of-activity2 c)) (filled (taken1-of-activity2 c)) ((enum-told-of-activity2 c) .enum-told .given .1) (begun .begin .ensures) same
+          (c .activity2 .ensures .0),
+      same-then ((loop-of-activity2 c) .loop .inv .1) same,
+    )
 
 loop-less-2 : tie.Need-loop-less-2 Inv-loop μ-loop
 loop-less-2 c = search needs
 
 loop-again-2 : tie.Need-loop-again-2 Inv-loop μ-loop
 loop-again-2 c =
-    let made = split-call (c .before) in
-    let event = split-event (made .before) in
-    let same = same-links (made .split .kept .1 .1) in (
-      pair-on (splitting (split-turn event)) pastCrew (made .split .ensures) same (c .count2 .ensures .0),
-      same-then (head (event .before .before) .loop .inv .1) same,
-    )
+    let at = (loop-of-left1 c) in
+    (rest-on ((loop-of-left1 c) .loop .inv .0 .manned) (work-turn (event-of-left1 c)) (c .before .before .before .enum-told .given .1) (rested c), at .loop .inv .1)
 
-enum-known-event-3 : tie.Need-enum-known-event-3 Inv-loop μ-loop
-enum-known-event-3 c = search needs
+enum-known-phase : tie.Need-enum-known-phase Inv-loop μ-loop
+enum-known-phase c = search needs
 
-mul-unite : tie.Need-mul-unite Inv-loop μ-loop
-mul-unite c = record { fits = unite-places (c .before) .0 .fits }
+mul-stow : tie.Need-mul-stow Inv-loop μ-loop
+mul-stow c = record { fits = omega (arith, work-place (event-of-known-told2 c)) }
 
-array-copy-out-unite : tie.Need-array-copy-out-unite Inv-loop μ-loop
-array-copy-out-unite c = unite-places (c .before) .0 .below
+array-copy-out-stow : tie.Need-array-copy-out-stow Inv-loop μ-loop
+array-copy-out-stow c = work-place (event-of-known-told2 c)
 
-mul-unite-2 : tie.Need-mul-unite-2 Inv-loop μ-loop
-mul-unite-2 c = record { fits = unite-places (c .before .before) .1 .fits }
+stow-requires : tie.Need-stow-requires Inv-loop μ-loop
+stow-requires c κs = stow-able ((loop-of-stow-arg4 c) .loop .inv .0 .manned) (work-turn (event-of-stow-arg4 c)) ((phase2-of-stow-arg4 c) .phase2 .given .1)
 
-array-copy-out-unite-2 : tie.Need-array-copy-out-unite-2 Inv-loop μ-loop
-array-copy-out-unite-2 c = unite-places (c .before .before) .1 .below
+mul-outputs : tie.Need-mul-outputs Inv-loop μ-loop
+mul-outputs c = record { fits = omega (arith, work-place (event-of-more c)) }
 
-unite-requires : tie.Need-unite-requires Inv-loop μ-loop
-unite-requires c κs = pair-pool (uniting (unite-turn (unite-event c))) pastCrew
+array-set-from-outputs : tie.Need-array-set-from-outputs Inv-loop μ-loop
+array-set-from-outputs c = work-place (event-of-more c)
 
-mul-crew-4 : tie.Need-mul-crew-4 Inv-loop μ-loop
-mul-crew-4 c = record { fits = unite-places (unite-event (unite-call c .before)) .1 .fits }
+mul-phases-2 : tie.Need-mul-phases-2 Inv-loop μ-loop
+mul-phases-2 c = record { fits = omega (arith, work-place (event-of-more c)) }
 
-array-set-from-crew-4 : tie.Need-array-set-from-crew-4 Inv-loop μ-loop
-array-set-from-crew-4 c = unite-places (unite-event (unite-call c .before)) .1 .below
+array-set-from-phases-2 : tie.Need-array-set-from-phases-2 Inv-loop μ-loop
+array-set-from-phases-2 c = work-place (event-of-more c)
 
-mul-crew-5 : tie.Need-mul-crew-5 Inv-loop μ-loop
-mul-crew-5 c = record { fits = unite-places (unite-event (unite-call c .before)) .0 .fits }
+mul-activity : tie.Need-mul-activity Inv-loop μ-loop
+mul-activity c = record { fits = omega (arith, work-place (event-of-more c)) }
 
-array-set-from-crew-5 : tie.Need-array-set-from-crew-5 Inv-loop μ-loop
-array-set-from-crew-5 c = unite-places (unite-event (unite-call c .before)) .0 .below
+array-copy-out-activity : tie.Need-array-copy-out-activity Inv-loop μ-loop
+array-copy-out-activity c = work-place (event-of-more c)
 
-count-requires-3 : tie.Need-count-requires-3 Inv-loop μ-loop
-count-requires-3 c κs = search needs
+activity-requires-3 : tie.Need-activity-requires-3 Inv-loop μ-loop
+activity-requires-3 c κs = search needs
 
-add-effective-3 : tie.Need-add-effective-3 Inv-loop μ-loop
-add-effective-3 c =
-    let made = unite-call (c .before) in
-    record { fits = effective-fits (unite-turn (unite-event (made .before))) (c .count3 .ensures .1) }
+add-busy-2 : tie.Need-add-busy-2 Inv-loop μ-loop
+add-busy-2 c = record { fits = omega (arith, busy-few (work-turn (event-of-activity3 c) .playing .ready .accepted .few-workers) ((loop-of-activity3 c) .loop .inv .0 .manned), c .activity3 .ensures .1) }
+
+sub-busy-2 : tie.Need-sub-busy-2 Inv-loop μ-loop
+sub-busy-2 c = omega (arith, held-some ((loop-of-activity3 c) .loop .inv .0 .manned) (work-turn (event-of-activity3 c)) (named-held ((loop-of-activity3 c) .loop .inv .0 .manned) (work-turn (event-of-activity3 c)) ((phase2-of-activity3 c) .phase2 .given .1)))
+
+add-effective-2 : tie.Need-add-effective-2 Inv-loop μ-loop
+add-effective-2 c = record { fits = effective-fits (work-turn (event-of-activity3 c)) }
 
 loop-less-3 : tie.Need-loop-less-3 Inv-loop μ-loop
 loop-less-3 c = search needs
 
 loop-again-3 : tie.Need-loop-again-3 Inv-loop μ-loop
 loop-again-3 c =
-    let made = unite-call (c .before) in
-    let event = unite-event (made .before) in
-    let same = same-links (made .unite .kept .1 .1) in (
-      pair-on (uniting (unite-turn event)) pastCrew (made .unite .ensures) same (c .count3 .ensures .0),
-      same-then (head (event .before .before) .loop .inv .1) same,
+    let stowed = (stow-of-activity3 c) in
+    let same = same-nodes (stowed .stow .kept .1 .1 .1 .1 .1) in (
+      stowed-on ((loop-of-activity3 c) .loop .inv .0 .manned) (work-turn (event-of-activity3 c)) ((phase2-of-activity3 c) .phase2 .given .1) (stowed .stow .ensures) same (c .activity3 .ensures .0),
+      same-then ((loop-of-activity3 c) .loop .inv .1) same,
     )
 
-enum-told : tie.Need-enum-told Inv-loop μ-loop
-enum-told c = search needs
+advance-requires : tie.Need-advance-requires Inv-loop μ-loop
+advance-requires c κs = advance-able ((loop-of-advance-arg2 c) .loop .inv .0 .manned) (work-turn (event-of-advance-arg2 c)) (between (c .before .before))
 
-all-idle-requires : tie.Need-all-idle-requires Inv-loop μ-loop
-all-idle-requires c κs = close-turn c .playing .ready .accepted .few-workers
+mul-phases-3 : tie.Need-mul-phases-3 Inv-loop μ-loop
+mul-phases-3 c = record { fits = omega (arith, work-place (event-of-slice-known16 c)) }
 
-gather-requires : tie.Need-gather-requires Inv-loop μ-loop
-gather-requires c κs =
-    let told = c .before .before .before .before in
-    let at = close-turn told .playing in
-    let idle = c .before .before .if1 .taken in
-    let few = at .ready .accepted .few-workers in (
-      omega (arith, few),
-      gather-able at (λ offsets number. sym (c .before .before .before .all-idle .ensures .0 offsets _ _ number) ∙ idle),
-    )
+array-set-from-phases-3 : tie.Need-array-set-from-phases-3 Inv-loop μ-loop
+array-set-from-phases-3 c = work-place (event-of-slice-known16 c)
 
-add-next : tie.Need-add-next Inv-loop μ-loop
-add-next c = record { fits = layer-fits (close-turn (gather-told (gather-call c)) .playing) }
+mul-activity-2 : tie.Need-mul-activity-2 Inv-loop μ-loop
+mul-activity-2 c = record { fits = omega (arith, work-place (event-of-slice-known16 c)) }
 
-add-effective-4 : tie.Need-add-effective-4 Inv-loop μ-loop
-add-effective-4 c = record { fits = effective-fits (close-turn (gather-told (gather-call c))) (omega arith) }
+array-copy-out-activity-2 : tie.Need-array-copy-out-activity-2 Inv-loop μ-loop
+array-copy-out-activity-2 c = work-place (event-of-slice-known16 c)
 
-is-empty-requires : tie.Need-is-empty-requires Inv-loop μ-loop
-is-empty-requires c κs = search needs
+activity-requires-4 : tie.Need-activity-requires-4 Inv-loop μ-loop
+activity-requires-4 c κs = search needs
 
-conclude-requires : tie.Need-conclude-requires Inv-loop μ-loop
-conclude-requires c κs = search needs
+add-busy-3 : tie.Need-add-busy-3 Inv-loop μ-loop
+add-busy-3 c = record { fits = omega (arith, busy-few (work-turn (event-of-activity4 c) .playing .ready .accepted .few-workers) ((loop-of-activity4 c) .loop .inv .0 .manned), c .activity4 .ensures .1) }
 
-same-length : tie.Need-same-length Inv-loop μ-loop
-same-length c =
-    let gathered = gather-call (c .before .before .before) in
-    lengths (head (gather-told gathered .before .before)) .of-distances
+sub-busy-3 : tie.Need-sub-busy-3 Inv-loop μ-loop
+sub-busy-3 c = omega (arith, held-some ((loop-of-activity4 c) .loop .inv .0 .manned) (work-turn (event-of-activity4 c)) (between-held ((loop-of-activity4 c) .loop .inv .0 .manned) (work-turn (event-of-activity4 c)) (between (match3-keys2-of-activity4 c))))
 
-same-length-2 : tie.Need-same-length-2 Inv-loop μ-loop
-same-length-2 c =
-    let gathered = gather-call (c .before .before .before) in
-    lengths (head (gather-told gathered .before .before)) .of-parents
-
-same-length-3 : tie.Need-same-length-3 Inv-loop μ-loop
-same-length-3 c =
-    let gathered = gather-call (c .before .before .before) in
-    gathered .gather .kept .1 .1 .0 ∙ lengths (head (gather-told gathered .before .before)) .of-left
-
-same-length-4 : tie.Need-same-length-4 Inv-loop μ-loop
-same-length-4 c =
-    let gathered = gather-call (c .before .before .before) in
-    gathered .gather .kept .1 .1 .1 .0 ∙ lengths (head (gather-told gathered .before .before)) .of-right
-
-same-length-5 : tie.Need-same-length-5 Inv-loop μ-loop
-same-length-5 c =
-    let gathered = gather-call (c .before .before .before) in
-    lengths (head (gather-told gathered .before .before)) .of-number
-
-returns : tie.Need-returns Inv-loop μ-loop
-returns c =
-    let gathered = gather-call (c .before .before .before) in
-    let told = gather-told gathered in
-    let empty = sym (c .before .before .is-empty .ensures _ _) ∙ c .before .if2 .taken in
-    ended-ran (close-turn told) (idle-told gathered) (gathered .gather .ensures) empty (c .conclude .ensures)
-
-opened-requires-2 : tie.Need-opened-requires-2 Inv-loop μ-loop
-opened-requires-2 c κs = search needs
+add-effective-3 : tie.Need-add-effective-3 Inv-loop μ-loop
+add-effective-3 c = record { fits = effective-fits (work-turn (event-of-activity4 c)) }
 
 loop-less-4 : tie.Need-loop-less-4 Inv-loop μ-loop
 loop-less-4 c = search needs
 
 loop-again-4 : tie.Need-loop-again-4 Inv-loop μ-loop
 loop-again-4 c =
-    let gathered = gather-call (c .before .before .before) in
-    let told = gather-told gathered in
-    let bare = gathered .before .before .before .before .all-idle .ensures .1 (gathered .before .before .before .if1 .taken) in
-    let filled = sym (c .before .before .is-empty .ensures _ _) ∙ c .before .if2 .left in
-    let same = same-links (gathered .gather .kept .1 .1) in (
-      raised-on (close-turn told) (idle-told gathered) (gathered .gather .ensures) bare filled same (c .opened2 .ensures),
-      same-then (head (told .before .before) .loop .inv .1) same,
+    let advanced = (advance-of-activity4 c) in
+    let same = same-labels (advanced .advance .kept .1 .1 .1 .1) in (
+      advanced-on ((loop-of-activity4 c) .loop .inv .0 .manned) (work-turn (event-of-activity4 c)) (between (match3-keys2-of-activity4 c)) (advanced .advance .ensures) same (c .activity4 .ensures .0),
+      same-then ((loop-of-activity4 c) .loop .inv .1) same,
     )
+
+enum-known-event-2 : tie.Need-enum-known-event-2 Inv-loop μ-loop
+enum-known-event-2 c = search needs
+
+mul-can-split : tie.Need-mul-can-split Inv-loop μ-loop
+mul-can-split c = record { fits = omega (arith, split-places (c .before) .0) }
+
+array-copy-out-can-split : tie.Need-array-copy-out-can-split Inv-loop μ-loop
+array-copy-out-can-split c = split-places (c .before) .0
+
+mul-can-split-2 : tie.Need-mul-can-split-2 Inv-loop μ-loop
+mul-can-split-2 c = record { fits = omega (arith, split-places (c .before .before) .1) }
+
+array-copy-out-can-split-2 : tie.Need-array-copy-out-can-split-2 Inv-loop μ-loop
+array-copy-out-can-split-2 c = split-places (c .before .before) .1
+
+can-split-requires : tie.Need-can-split-requires Inv-loop μ-loop
+can-split-requires c κs = search needs
+
+mul-activity-3 : tie.Need-mul-activity-3 Inv-loop μ-loop
+mul-activity-3 c = record { fits = omega (arith, split-places (event2-of-taken2 c) .0) }
+
+array-copy-out-activity-3 : tie.Need-array-copy-out-activity-3 Inv-loop μ-loop
+array-copy-out-activity-3 c = split-places (event2-of-taken2 c) .0
+
+mul-activity-4 : tie.Need-mul-activity-4 Inv-loop μ-loop
+mul-activity-4 c = record { fits = omega (arith, split-places (event2-of-activity-arg3 c) .0) }
+
+array-copy-out-activity-4 : tie.Need-array-copy-out-activity-4 Inv-loop μ-loop
+array-copy-out-activity-4 c = split-places (event2-of-activity-arg3 c) .0
+
+activity-requires-5 : tie.Need-activity-requires-5 Inv-loop μ-loop
+activity-requires-5 c κs = search needs
+
+mul-split : tie.Need-mul-split Inv-loop μ-loop
+mul-split c = record { fits = omega (arith, split-places (event2-of-activity5 c) .1) }
+
+array-copy-out-split : tie.Need-array-copy-out-split Inv-loop μ-loop
+array-copy-out-split c = split-places (event2-of-activity5 c) .1
+
+split-requires : tie.Need-split-requires Inv-loop μ-loop
+split-requires c κs = split-able ((loop-of-split-arg3 c) .loop .inv .0 .manned) (split-turn (event2-of-split-arg3 c))
+
+mul-inputs-2 : tie.Need-mul-inputs-2 Inv-loop μ-loop
+mul-inputs-2 c = record { fits = omega (arith, split-places (event2-of-given c) .1) }
+
+array-set-from-inputs-2 : tie.Need-array-set-from-inputs-2 Inv-loop μ-loop
+array-set-from-inputs-2 c = split-places (event2-of-given c) .1
+
+mul-inputs-3 : tie.Need-mul-inputs-3 Inv-loop μ-loop
+mul-inputs-3 c = record { fits = omega (arith, split-places (event2-of-given c) .0) }
+
+array-set-from-inputs-3 : tie.Need-array-set-from-inputs-3 Inv-loop μ-loop
+array-set-from-inputs-3 c = split-places (event2-of-given c) .0
+
+add-busy-4 : tie.Need-add-busy-4 Inv-loop μ-loop
+add-busy-4 c = record { fits = omega (arith, busy-few (split-turn (event2-of-given c) .playing .ready .accepted .few-workers) ((loop-of-given c) .loop .inv .0 .manned)) }
+
+sub-busy-4 : tie.Need-sub-busy-4 Inv-loop μ-loop
+sub-busy-4 c = omega (arith, (activity5-of-given c) .activity5 .ensures .1)
+
+add-effective-4 : tie.Need-add-effective-4 Inv-loop μ-loop
+add-effective-4 c = record { fits = effective-fits (split-turn (event2-of-given c)) }
 
 loop-less-5 : tie.Need-loop-less-5 Inv-loop μ-loop
 loop-less-5 c = search needs
 
 loop-again-5 : tie.Need-loop-again-5 Inv-loop μ-loop
 loop-again-5 c =
-    let told = c .before .before in
-    let at = head (told .before .before) in
-    let busy = sym (c .before .all-idle .ensures .0 (start-of at .args .offsets .now) _ _ (at .loop .number)) ∙ c .if1 .left in
-    (close-unmet (close-turn told) busy, at .loop .inv .1)
-
-enum-told-2 : tie.Need-enum-told-2 Inv-loop μ-loop
-enum-told-2 c = search needs
+    let made = (split-of-given c) in
+    let met = sym ((can-split-of-given c) .can-split .ensures _ _) ∙ (taken2-of-given c) .if2 .taken in
+    let same = same-links (made .split .kept .1) in (
+      split-on ((loop-of-given c) .loop .inv .0 .manned) (split-turn (event2-of-given c)) met (made .split .ensures) ((activity5-of-given c) .activity5 .ensures .0) same,
+      same-then ((loop-of-given c) .loop .inv .1) same,
+    )
 
 loop-less-6 : tie.Need-loop-less-6 Inv-loop μ-loop
 loop-less-6 c = search needs
 
 loop-again-6 : tie.Need-loop-again-6 Inv-loop μ-loop
-loop-again-6 c = (malformed-on (turn (c .before .before) (c .enum-told2 .given .1)), head (c .before .before) .loop .inv .1)
+loop-again-6 c =
+    let unmet = sym (c .before .can-split .ensures _ _) ∙ c .if2 .left in
+    (split-unmet-on ((loop-of-left2 c) .loop .inv .0 .manned) (split-turn (event2-of-left2 c)) unmet, (loop-of-left2 c) .loop .inv .1)
+
+enum-known-event-3 : tie.Need-enum-known-event-3 Inv-loop μ-loop
+enum-known-event-3 c = search needs
+
+mul-can-unite : tie.Need-mul-can-unite Inv-loop μ-loop
+mul-can-unite c = record { fits = omega (arith, unite-places (c .before) .0) }
+
+array-copy-out-can-unite : tie.Need-array-copy-out-can-unite Inv-loop μ-loop
+array-copy-out-can-unite c = unite-places (c .before) .0
+
+mul-can-unite-2 : tie.Need-mul-can-unite-2 Inv-loop μ-loop
+mul-can-unite-2 c = record { fits = omega (arith, unite-places (c .before .before) .1) }
+
+array-copy-out-can-unite-2 : tie.Need-array-copy-out-can-unite-2 Inv-loop μ-loop
+array-copy-out-can-unite-2 c = unite-places (c .before .before) .1
+
+can-unite-requires : tie.Need-can-unite-requires Inv-loop μ-loop
+can-unite-requires c κs = search needs
+
+mul-union : tie.Need-mul-union Inv-loop μ-loop
+mul-union c = record { fits = omega (arith, unite-places (event3-of-taken3 c) .1) }
+
+array-copy-out-union : tie.Need-array-copy-out-union Inv-loop μ-loop
+array-copy-out-union c = unite-places (event3-of-taken3 c) .1
+
+mul-union-2 : tie.Need-mul-union-2 Inv-loop μ-loop
+mul-union-2 c = record { fits = omega (arith, unite-places (event3-of-union-arg c) .0) }
+
+array-copy-out-union-2 : tie.Need-array-copy-out-union-2 Inv-loop μ-loop
+array-copy-out-union-2 c = unite-places (event3-of-union-arg c) .0
+
+union-requires : tie.Need-union-requires Inv-loop μ-loop
+union-requires c κs = unite-able ((loop-of-union-arg4 c) .loop .inv .0 .manned) (unite-turn (event3-of-union-arg4 c))
+
+mul-outputs-2 : tie.Need-mul-outputs-2 Inv-loop μ-loop
+mul-outputs-2 c = record { fits = omega (arith, unite-places (event3-of-slice-known20 c) .1) }
+
+array-set-from-outputs-2 : tie.Need-array-set-from-outputs-2 Inv-loop μ-loop
+array-set-from-outputs-2 c = unite-places (event3-of-slice-known20 c) .1
+
+empty-requires-2 : tie.Need-empty-requires-2 Inv-loop μ-loop
+empty-requires-2 c κs = search needs
+
+mul-outputs-3 : tie.Need-mul-outputs-3 Inv-loop μ-loop
+mul-outputs-3 c = record { fits = omega (arith, unite-places (event3-of-empty2 c) .0) }
+
+array-set-from-outputs-3 : tie.Need-array-set-from-outputs-3 Inv-loop μ-loop
+array-set-from-outputs-3 c = unite-places (event3-of-empty2 c) .0
+
+add-effective-5 : tie.Need-add-effective-5 Inv-loop μ-loop
+add-effective-5 c = record { fits = effective-fits (unite-turn (event3-of-empty2 c)) }
+
+loop-less-7 : tie.Need-loop-less-7 Inv-loop μ-loop
+loop-less-7 c = search needs
+
+loop-again-7 : tie.Need-loop-again-7 Inv-loop μ-loop
+loop-again-7 c =
+    let made = (union-of-empty2 c) in
+    let met = sym ((can-unite-of-empty2 c) .can-unite .ensures _ _) ∙ (taken3-of-empty2 c) .if3 .taken in
+    let same = same-links (made .union .kept .1 .1) in (
+      unite-on ((loop-of-empty2 c) .loop .inv .0 .manned) (unite-turn (event3-of-empty2 c)) met (made .union .ensures) (c .empty2 .ensures) same,
+      same-then ((loop-of-empty2 c) .loop .inv .1) same,
+    )
+
+loop-less-8 : tie.Need-loop-less-8 Inv-loop μ-loop
+loop-less-8 c = search needs
+
+loop-again-8 : tie.Need-loop-again-8 Inv-loop μ-loop
+loop-again-8 c =
+    let unmet = sym (c .before .can-unite .ensures _ _) ∙ c .if3 .left in
+    (unite-unmet-on ((loop-of-left3 c) .loop .inv .0 .manned) (unite-turn (event3-of-left3 c)) unmet, (loop-of-left3 c) .loop .inv .1)
+
+enum-told-2 : tie.Need-enum-told-2 Inv-loop μ-loop
+enum-told-2 c = search needs
+
+all-idle-requires : tie.Need-all-idle-requires Inv-loop μ-loop
+all-idle-requires c κs = close-turn (c .before) .playing .ready .accepted .few-workers
+
+array-copy-out-gather : tie.Need-array-copy-out-gather Inv-loop μ-loop
+array-copy-out-gather c = search needs
+
+gather-requires : tie.Need-gather-requires Inv-loop μ-loop
+gather-requires c κs =
+    let told = close-turn (enum-told2-of-gather-arg3 c) in
+    (told .playing .ready .accepted .few-workers, gather-pooled ((loop-of-gather-arg3 c) .loop .inv .0 .manned) told (idle-told (c .before .before .before)))
+
+add-next : tie.Need-add-next Inv-loop μ-loop
+add-next c = record { fits = layer-fits (close-turn (enum-told2-of-slice-known22 c) .playing) }
+
+add-counted : tie.Need-add-counted Inv-loop μ-loop
+add-counted c = record { fits = effective-fits (close-turn (enum-told2-of-slice-known22 c)) }
+
+is-empty-requires-2 : tie.Need-is-empty-requires-2 Inv-loop μ-loop
+is-empty-requires-2 c κs = search needs
+
+conclude-requires : tie.Need-conclude-requires Inv-loop μ-loop
+conclude-requires c κs = search needs
+
+same-length : tie.Need-same-length Inv-loop μ-loop
+same-length c = lengths (loop-of-conclude c) .of-distances
+
+same-length-2 : tie.Need-same-length-2 Inv-loop μ-loop
+same-length-2 c = lengths (loop-of-conclude c) .of-parents
+
+same-length-3 : tie.Need-same-length-3 Inv-loop μ-loop
+same-length-3 c = (gather-of-conclude c) .gather .kept .1 .1 .1 .0 ∙ lengths (loop-of-conclude c) .of-left
+
+same-length-4 : tie.Need-same-length-4 Inv-loop μ-loop
+same-length-4 c = (gather-of-conclude c) .gather .kept .1 .1 .1 .1 .0 ∙ lengths (loop-of-conclude c) .of-right
+
+same-length-5 : tie.Need-same-length-5 Inv-loop μ-loop
+same-length-5 c = lengths (loop-of-conclude c) .of-number
+
+returns : tie.Need-returns Inv-loop μ-loop
+returns c =
+    let gathered = (gather-of-conclude c) in
+    let empty = sym (c .before .before .is-empty2 .ensures _ _) ∙ c .before .if6 .taken in
+    finished-ran ((loop-of-conclude c) .loop .inv .0 .manned) (close-turn (enum-told2-of-conclude c)) (idle-told (taken5-of-conclude c)) (gathered .gather .ensures) empty (c .conclude .ensures)
+
+activity-requires-6 : tie.Need-activity-requires-6 Inv-loop μ-loop
+activity-requires-6 c κs = search needs
+
+first-of-eight-requires-3 : tie.Need-first-of-eight-requires-3 Inv-loop μ-loop
+first-of-eight-requires-3 c κs = search needs
+
+empty-requires-3 : tie.Need-empty-requires-3 Inv-loop μ-loop
+empty-requires-3 c κs = search needs
+
+first-of-eight-requires-4 : tie.Need-first-of-eight-requires-4 Inv-loop μ-loop
+first-of-eight-requires-4 c κs = search needs
+
+all-free-requires-2 : tie.Need-all-free-requires-2 Inv-loop μ-loop
+all-free-requires-2 c κs = search needs
+
+loop-less-9 : tie.Need-loop-less-9 Inv-loop μ-loop
+loop-less-9 c = search needs
+
+loop-again-9 : tie.Need-loop-again-9 Inv-loop μ-loop
+loop-again-9 c =
+    let gathered = (gather-of-all-free2 c) in
+    let at = (loop-of-all-free2 c) in
+    let none = c .before .first-of-eight4 .ensures ∙ ap (λ (l : List ℕ). firstOfEight (record { slots = l })) (c .before .before .empty3 .ensures) in
+    let bare = (all-idle-of-all-free2 c) .all-idle .ensures .1 (at .loop .outputs) (at .loop .inv .0 .manned .even .outputs-long) ((taken5-of-all-free2 c) .if5 .taken) in
+    let some = sym ((is-empty2-of-all-free2 c) .is-empty2 .ensures _ _) ∙ (left6-of-all-free2 c) .if6 .left in
+    let same = same-links (gathered .gather .kept .1 .1 .1) in (
+      opened-on ((loop-of-all-free2 c) .loop .inv .0 .manned) (close-turn (enum-told2-of-all-free2 c)) (idle-told (taken5-of-all-free2 c)) (gathered .gather .ensures) bare some same
+          ((activity6-of-all-free2 c) .activity6 .ensures .0 emptyBagOf) (c .before .before .before .first-of-eight3 .ensures) none (c .all-free2 .ensures),
+      same-then (at .loop .inv .1) same,
+    )
+
+loop-less-10 : tie.Need-loop-less-10 Inv-loop μ-loop
+loop-less-10 c = search needs
+
+loop-again-10 : tie.Need-loop-again-10 Inv-loop μ-loop
+loop-again-10 c =
+    let at = (loop-of-left5 c) in
+    let args = start-of at .args in
+    let busy = sym (c .before .all-idle .ensures .0 (at .loop .outputs) (at .loop .inv .0 .manned .even .outputs-long) (args .offsets .now) _ _ (at .loop .number)) ∙ c .if5 .left in
+    (busy-told ((loop-of-left5 c) .loop .inv .0 .manned) (close-turn (c .before .before .before)) busy, at .loop .inv .1)
+
+loop-less-11 : tie.Need-loop-less-11 Inv-loop μ-loop
+loop-less-11 c = search needs
+
+loop-again-11 : tie.Need-loop-again-11 Inv-loop μ-loop
+loop-again-11 c = (busy-on ((loop-of-left4 c) .loop .inv .0 .manned) (close-turn (c .before)) (c .if4 .left), (loop-of-left4 c) .loop .inv .1)
+
+enum-told-3 : tie.Need-enum-told-3 Inv-loop μ-loop
+enum-told-3 c = search needs
+
+loop-less-12 : tie.Need-loop-less-12 Inv-loop μ-loop
+loop-less-12 c = search needs
+
+loop-again-12 : tie.Need-loop-again-12 Inv-loop μ-loop
+loop-again-12 c = (strange-on ((loop-of-enum-told3 c) .loop .inv .0 .manned) (turn (c .before .before) (c .enum-told3 .given .1)), (loop-of-enum-told3 c) .loop .inv .1)
 
 conclude-requires-2 : tie.Need-conclude-requires-2 Inv-loop μ-loop
 conclude-requires-2 c κs = search needs
@@ -420,7 +851,7 @@ same-length-10 : tie.Need-same-length-10 Inv-loop μ-loop
 same-length-10 c = lengths (c .before .before) .of-number
 
 returns-2 : tie.Need-returns-2 Inv-loop μ-loop
-returns-2 c = spent-ran (c .before .before .loop .inv .0) (c .before .loop-test .left) (c .conclude2 .ensures)
+returns-2 c = spent-ran (c .before .before .loop .inv .0 .playing) (c .before .loop-test .left) (c .conclude2 .ensures)
 
 pub run-spec : {M : Type 1} → statement M
 run-spec =
@@ -429,55 +860,117 @@ run-spec =
     Inv-loop
     μ-loop
     open-requires
-    opened-requires
+    activity-requires
+    first-of-eight-requires
+    empty-requires
+    first-of-eight-requires-2
+    all-free-requires
     loop-holds
     shared-slice-read-decode
     decode-requires
     add-used
     enum-known-event
-    mul-work
-    array-copy-out-work
-    work-requires
-    mul-crew
-    array-set-from-crew
-    count-requires
+    mul-phase
+    array-copy-out-phase
+    enum-told
+    mul-is-empty
+    array-copy-out-is-empty
+    is-empty-requires
+    mul-begin
+    array-copy-out-begin
+    begin-requires
+    mul-inputs
+    array-set-from-inputs
+    mul-phases
+    array-set-from-phases
+    activity-requires-2
+    add-busy
+    sub-busy
     add-effective
     loop-less
     loop-again
-    enum-known-event-2
-    mul-split
-    array-copy-out-split
-    mul-split-2
-    array-copy-out-split-2
-    split-requires
-    mul-crew-2
-    array-set-from-crew-2
-    mul-crew-3
-    array-set-from-crew-3
-    count-requires-2
-    add-effective-2
     loop-less-2
     loop-again-2
-    enum-known-event-3
-    mul-unite
-    array-copy-out-unite
-    mul-unite-2
-    array-copy-out-unite-2
-    unite-requires
-    mul-crew-4
-    array-set-from-crew-4
-    mul-crew-5
-    array-set-from-crew-5
-    count-requires-3
-    add-effective-3
+    enum-known-phase
+    mul-stow
+    array-copy-out-stow
+    stow-requires
+    mul-outputs
+    array-set-from-outputs
+    mul-phases-2
+    array-set-from-phases-2
+    mul-activity
+    array-copy-out-activity
+    activity-requires-3
+    add-busy-2
+    sub-busy-2
+    add-effective-2
     loop-less-3
     loop-again-3
-    enum-told
+    advance-requires
+    mul-phases-3
+    array-set-from-phases-3
+    mul-activity-2
+    array-copy-out-activity-2
+    activity-requires-4
+    add-busy-3
+    sub-busy-3
+    add-effective-3
+    loop-less-4
+    loop-again-4
+    enum-known-event-2
+    mul-can-split
+    array-copy-out-can-split
+    mul-can-split-2
+    array-copy-out-can-split-2
+    can-split-requires
+    mul-activity-3
+    array-copy-out-activity-3
+    mul-activity-4
+    array-copy-out-activity-4
+    activity-requires-5
+    mul-split
+    array-copy-out-split
+    split-requires
+    mul-inputs-2
+    array-set-from-inputs-2
+    mul-inputs-3
+    array-set-from-inputs-3
+    add-busy-4
+    sub-busy-4
+    add-effective-4
+    loop-less-5
+    loop-again-5
+    loop-less-6
+    loop-again-6
+    enum-known-event-3
+    mul-can-unite
+    array-copy-out-can-unite
+    mul-can-unite-2
+    array-copy-out-can-unite-2
+    can-unite-requires
+    mul-union
+    array-copy-out-union
+    mul-union-2
+    array-copy-out-union-2
+    union-requires
+    mul-outputs-2
+    array-set-from-outputs-2
+    empty-requires-2
+    mul-outputs-3
+    array-set-from-outputs-3
+    add-effective-5
+    loop-less-7
+    loop-again-7
+    loop-less-8
+    loop-again-8
+    enum-told-2
     all-idle-requires
+    array-copy-out-gather
     gather-requires
     add-next
-    add-effective-4
-    is-empty-requires
+    add-counted
+    is-empty-requires-2
     conclude-requires
     same-length
     same-length-2
@@ -485,14 +978,20 @@ run-spec =
     same-length-4
     same-length-5
     returns
-    opened-requires-2
-    loop-less-4
-    loop-again-4
-    loop-less-5
-    loop-again-5
-    enum-told-2
-    loop-less-6
-    loop-again-6
+    activity-requires-6
+    first-of-eight-requires-3
+    empty-requires-3
+    first-of-eight-requires-4
+    all-free-requires-2
+    loop-less-9
+    loop-again-9
+    loop-less-10
+    loop-again-10
+    loop-less-11
+    loop-again-11
+    enum-told-3
+    loop-less-12
+    loop-again-12
     conclude-requires-2
     same-length-6
     same-length-7

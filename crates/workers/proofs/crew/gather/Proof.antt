@@ -1,40 +1,39 @@
--- `workers::crew::gather` meets its contract. The invariant is Gathering (GatherFacts). The measure is the workers that are left.
+-- `workers::crew::gather` meets its contract. The invariant is Gathering (GatherFacts). The measure is the bags that are left.
 use borrow.Author.Needs.{needs}
 use mathlib.Core.Path.{_≡_}
+use mathlib.Core.List.{map}
 use Prim.Native.Nat.{_-_}
 use lib.ListN.{length, take}
-use Rattle.workers.proofs.CrewFacts.{pastCrew}
-use Rattle.workers.proofs.GatherFacts.{Gathering, gather-first, gather-next-requires, gather-next, gather-last}
+use Rattle.workers.specs.Shown.{slotsOf}
+use Rattle.workers.proofs.GatherFacts.{Gathering, gather-start, gather-next-requires, gather-next, gather-last}
 use Rattle.workers.proofs.crew.gather.Statement.{statement}
 use Rattle.workers.proofs.crew.gather.Tie as tie
 
 abbrev Inv-loop : tie.InvT-loop
-Inv-loop workers left₀ right₀ crew bag₀ next₀ left right bag next = Gathering (take workers crew) left₀ right₀ next left right (bag .slots)
+Inv-loop workers left₀ right₀ outputs bag₀ next₀ left right bag next =
+    Gathering (bag₀ .slots) (map slotsOf (take workers outputs)) left₀ right₀ next left right (bag .slots)
 
 abbrev μ-loop : tie.MeasureT-loop
-μ-loop workers left₀ right₀ crew bag₀ next₀ left right bag next = workers - next
-
-array-copy-out-first : tie.Need-array-copy-out-first Inv-loop μ-loop
-array-copy-out-first c = search needs
+μ-loop workers left₀ right₀ outputs bag₀ next₀ left right bag next = workers - next
 
 loop-holds : tie.Need-loop-holds Inv-loop μ-loop
 loop-holds c =
-    let start = c .before .before .before .before in
-    let long : length (start .args .t1) ≡ 8 = search needs in
-    gather-first (start .args .t1) (start .args .workers) pastCrew (search needs) (start .pre .1)
+    let start = c .before .before in
+    let a = start .args in
+    gather-start (a .first .slots) (map slotsOf (take (a .workers) (a .t2))) (a .left .now) (a .right .now) (start .pre .1)
 
-mul-worker : tie.Need-mul-worker Inv-loop μ-loop
-mul-worker c = search needs
+mul-union : tie.Need-mul-union Inv-loop μ-loop
+mul-union c = search needs
 
-array-copy-out-worker : tie.Need-array-copy-out-worker Inv-loop μ-loop
-array-copy-out-worker c = search needs
+array-copy-out-union : tie.Need-array-copy-out-union Inv-loop μ-loop
+array-copy-out-union c = search needs
 
 union-requires : tie.Need-union-requires Inv-loop μ-loop
 union-requires c κs =
-    let at-loop = c .before .before .before .before .before in
-    let start = at-loop .before .before .before .before .before in
-    let long : length (start .args .t1) ≡ 8 = search needs in
-    gather-next-requires (start .args .t1) (start .args .workers) pastCrew (search needs) (at-loop .loop .next) (at-loop .loop .inv) (search needs)
+    let at-loop = c .before .before .before .before in
+    let start = at-loop .before .before .before in
+    let long : length (start .args .t2) ≡ 8 = search needs in
+    gather-next-requires (start .args .t2) (start .args .workers) (search needs) (at-loop .loop .next) (at-loop .loop .inv) (search needs)
 
 add-next : tie.Need-add-next Inv-loop μ-loop
 add-next c = search needs
@@ -44,10 +43,10 @@ loop-less c = search needs
 
 loop-again : tie.Need-loop-again Inv-loop μ-loop
 loop-again c =
-    let at-loop = c .before .before .before .before .before .before .before .before .before .before in
-    let start = at-loop .before .before .before .before .before in
-    let long : length (start .args .t1) ≡ 8 = search needs in
-    gather-next (start .args .t1) (start .args .workers) pastCrew (search needs) (at-loop .loop .next) (at-loop .loop .inv) (search needs)
+    let at-loop = c .before .before .before .before .before .before .before .before .before in
+    let start = at-loop .before .before .before in
+    let long : length (start .args .t2) ≡ 8 = search needs in
+    gather-next (start .args .t2) (start .args .workers) (search needs) (at-loop .loop .next) (at-loop .loop .inv) (search needs)
     (c .before .before .before .before .union .ensures)
 
 same-length : tie.Need-same-length Inv-loop μ-loop
@@ -59,10 +58,9 @@ same-length-2 c = search needs
 returns : tie.Need-returns Inv-loop μ-loop
 returns c =
     let at-loop = c .before in
-    let start = at-loop .before .before .before .before .before in
-    let long : length (start .args .t1) ≡ 8 = search needs in
-    gather-last (start .args .t1) (start .args .workers) pastCrew (search needs) (at-loop .loop .next) (start .pre .1 .some-worker) (search needs)
-    (at-loop .loop .inv)
+    let start = at-loop .before .before .before in
+    let long : length (start .args .t2) ≡ 8 = search needs in
+    gather-last (start .args .t2) (start .args .workers) (search needs) (at-loop .loop .next) (search needs) (at-loop .loop .inv)
 
 pub gather-spec : {M : Type 1} → statement M
 gather-spec =
@@ -70,10 +68,9 @@ gather-spec =
     (tie.spec
     Inv-loop
     μ-loop
-    array-copy-out-first
     loop-holds
-    mul-worker
-    array-copy-out-worker
+    mul-union
+    array-copy-out-union
     union-requires
     add-next
     loop-less

@@ -18,14 +18,16 @@ is-empty-requires c κs = search needs
 
 returns : tie.Need-returns
 returns c =
-    let start = c .before .before .before .before in
-    let worker = start .args .worker in
-    let long : length (worker .input .slots) ≡ slotCount = search needs in
-    (idle-free worker long (c .is-empty .ensures) (c .before .enum-told .given .1), idle-bare worker long (c .is-empty .ensures))
+    let start = c .before .before .before in
+    let phase = start .args .phase in
+    let input = start .args .input in
+    let long : length (input .slots) ≡ slotCount = search needs in
+    (idle-free phase input long (c .is-empty .ensures) (c .before .enum-told .given .1), idle-bare phase input long (c .is-empty .ensures))
 
 returns-2 : tie.Need-returns-2
 returns-2 c =
-    (busy-test (tagOf the-type) refl (c .before .before .args .worker) (c .match .keys2), λ e. absurd (true≢false (sym e)))
+    let a = c .before .args in
+    (λ output. busy-test (tagOf the-type) refl (a .phase) (a .input) output (c .match .keys2), λ e. absurd (true≢false (sym e)))
 
 pub is-idle-spec : {M : Type 1} → statement M
 is-idle-spec = tie.close (tie.spec enum-told is-empty-requires returns returns-2)

@@ -19,7 +19,7 @@ look-requires c κs =
     let a = start .args in
     let p = c .before .before .phase .given in
     let small = edge-small (start .pre .0) (fits-as (a .offsets .now) (length (a .distances .now)) (p .1) (start .pre .1 .1 .1 .0)) in
-    (small .vertex-below, (small .vertex-small, (small .edge-below, (small .edge-small, small .target-below))))
+    (small .vertex-below, (small .edge-below, (small .edge-small, small .target-below)))
 
 enum-known-phase-2 : tie.Need-enum-known-phase-2
 enum-known-phase-2 c = search needs

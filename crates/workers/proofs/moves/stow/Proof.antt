@@ -1,16 +1,14 @@
--- `workers::moves::stow` meets its contract: the target is inserted into the output bag, and the worker passes on.
+-- `workers::moves::stow` meets its contract: the target is inserted into the output bag, and the worker passes on, whatever its input bag is.
 use borrow.Author.Needs.{needs}
-use Rattle.workers.proofs.MoveFacts.{output-pooled, stow-held}
+use mathlib.Core.Path.{refl}
+use Rattle.workers.specs.declared.Phase.the-variants.{Named}
+use Rattle.workers.specs.Shown.{workerFrom}
+use Rattle.workers.proofs.MoveFacts.{stow-held}
 use Rattle.workers.proofs.moves.stow.Statement.{statement}
 use Rattle.workers.proofs.moves.stow.Tie as tie
 
 insert-requires : tie.Need-insert-requires
-insert-requires c κs =
-    let start = c .before .before .before .before .before .before .before .before .before in
-    let a = start .args in (
-      output-pooled (a .worker) (a .left .now) (a .right .now) (a .number .now) (start .pre .1 .1 .1 .1 .0),
-      (start .pre .1 .1 .1 .1 .0 .numbered, start .pre .1 .1 .1 .1 .1),
-    )
+insert-requires c κs = search needs
 
 add-hold : tie.Need-add-hold
 add-hold c = search needs
@@ -28,13 +26,14 @@ same-length-3 : tie.Need-same-length-3
 same-length-3 c = search needs
 
 returns : tie.Need-returns
-returns c =
-    let start = c .before .before .before .before .before .before .before .before .before .before .before .before .before .before .before .before .before in
+returns c = λ input stocked.
+    let inserted = c .before .before .before .before .before .before .before in
+    let start = inserted .before .before .before .before .before .before .before .before in
     let a = start .args in
-    let made = c .before .before .before .before .before .before .before .insert in
-    stow-held (a .worker) (a .vertex) (a .edge) (a .target) (a .offsets .now) (a .left .now) (a .right .now) (a .number .now)
-    (made .last .1 .1 .0) (made .last .1 .1 .1 .0) (made .last .1 .1 .1 .1 .0) (made .result) (c .hold .result)
-    (start .pre .0) (start .pre .1 .1 .1 .1 .0) (made .ensures) (c .hold .ensures)
+    let made = inserted .insert in
+    stow-held (workerFrom input (a .output) (Named (a .vertex) (a .edge) (a .target))) (a .vertex) (a .edge) (a .target) (a .offsets .now) (a .left .now)
+    (a .right .now) (a .number .now) (made .last .1 .1 .0) (made .last .1 .1 .1 .0) (made .last .1 .1 .1 .1 .0) (made .result) (c .hold .result)
+    refl stocked (made .ensures) (c .hold .ensures)
 
 pub stow-spec : {M : Type 1} → statement M
 stow-spec =

@@ -1,0 +1,75 @@
+//! What came up: how often each call gave each number, and which lists were found too short alone.
+
+use super::lent;
+use hopbench::calls::{Call, CALLS};
+use hopbench::lists::{LISTS, NAMES};
+
+/// One above the greatest number.
+const NUMBERS: usize = 22;
+
+#[derive(Default)]
+pub struct Tally {
+    numbers: [[usize; NUMBERS]; CALLS.len()],
+    short: [[usize; LISTS]; CALLS.len()],
+}
+
+/// The numbers that a call can give.
+fn possible(call: Call) -> &'static [usize] {
+    match call {
+        Call::Read => &[0, 1, 2, 3, 4, 5, 6, 20],
+        Call::Write => &[0, 11, 20],
+        Call::Search => &[0, 1, 2, 3, 4, 5, 6, 7, 8, 9, 20, 21],
+        Call::Check | Call::Page => &[0, 1, 2, 3, 4, 5, 6, 7, 10, 20],
+    }
+}
+
+impl Tally {
+    /// A call gave this number.
+    pub fn count(&mut self, call: Call, number: usize) {
+        self.numbers[call as usize][number] += 1;
+    }
+
+    /// A call gave 20 for this list, which was one short, and no other was.
+    pub fn short_alone(&mut self, call: Call, list: usize) {
+        self.short[call as usize][list] += 1;
+    }
+
+    pub fn print(&self) {
+        println!("how often each call gave each number:");
+        for call in CALLS {
+            print!("  {}:", call.name());
+            for (number, times) in self.numbers[call as usize].iter().enumerate() {
+                if *times > 0 {
+                    print!("  {number} x {times}");
+                }
+            }
+            println!();
+        }
+        println!("how often a list was one short, alone:");
+        for call in CALLS {
+            print!("  {}:", call.name());
+            for list in lent(call) {
+                print!("  {} x {}", NAMES[list], self.short[call as usize][list]);
+            }
+            println!();
+        }
+    }
+
+    /// An error that names what never came up.
+    pub fn complete(&self) -> Result<(), String> {
+        let mut missing = Vec::new();
+        for call in CALLS {
+            let numbers = possible(call).iter();
+            let unseen = numbers.filter(|&&number| self.numbers[call as usize][number] == 0);
+            missing.extend(unseen.map(|number| format!("{}: number {number}", call.name())));
+            let lists = lent(call).into_iter();
+            let unseen = lists.filter(|&list| self.short[call as usize][list] == 0);
+            missing
+                .extend(unseen.map(|list| format!("{}: {} one short", call.name(), NAMES[list])));
+        }
+        if missing.is_empty() {
+            return Ok(());
+        }
+        Err(format!("never came up: {}", missing.join("; ")))
+    }
+}

@@ -1,0 +1,119 @@
+-- The workers in three lists, and how many of them are not idle: the count goes on with one or two workers replaced, and as a layer opens.
+use mathlib.Core.Path.{_≡_, refl, sym, ap, _∙_}
+use mathlib.Core.List.{List, []}
+use Prim.Native.Nat.{ℕ, _+_, _-_, _≤_, _<_}
+use native.Mathlib.Omega.{arith}
+use lib.ListN.{length, getD, set, take, replicate, length-set, length-replicate}
+use lib.Seq.{length-take-le, getD-set-other}
+use Rattle.numbers.specs.Numbers.{maxWorkers}
+use Rattle.lists.specs.Lists.{sumOf}
+use Rattle.lists.proofs.Sums.{sum-first}
+use Rattle.lists.proofs.Parts.{getD-repeated}
+use Rattle.pennant.specs.Bag.{isEmpty}
+use Rattle.pennant.proofs.Laws.{empty-bag}
+use Rattle.bag.specs.declared.Bag as bag
+use Rattle.bag.proofs.HeldFacts.{held-none}
+use Rattle.model.specs.Table.{isFree}
+use Rattle.workers.specs.declared.Phase.{Phase}
+use Rattle.workers.specs.declared.Phase.the-variants.{Free}
+use Rattle.workers.specs.Shown.{Worker, workerFrom, crewOf, phaseOf, workerOf}
+use Rattle.workers.specs.Steps.{activityOf, emptyBagOf, allFree, withInput, idleOne, openedCrew}
+use Rattle.workers.proofs.CrewFacts.{pastCrew, opened-crew}
+use Rattle.workers.proofs.PartsFacts.{Even, crew-long, crew-at, partsAt, firstOfEight, opened-parts, opened-even}
+use Rattle.workers.proofs.IdleFacts.{activity-idle, activities-few, activity-set}
+
+-- eight workers in three lists, of whose first P so many are not idle
+pub record Manned (P busy : ℕ) (inputs outputs : List bag.Bag) (phases : List Phase) : Type 0 where
+  pub even : Even maxWorkers inputs outputs phases
+  pub counted : busy ≡ sumOf activityOf (take P (crewOf inputs outputs phases))
+
+-- whether a worker is idle has nothing to do with its output bag
+pub activity-output : (input output output′ : bag.Bag) (phase : Phase) → activityOf (workerFrom input output phase) ≡ activityOf (workerFrom input output′ phase)
+unfolding activityOf workerOf
+activity-output input output output′ phase = refl
+
+-- a worker with nothing to do counts nothing
+idle-inactive : activityOf idleOne ≡ 0
+unfolding isFree workerOf phaseOf
+idle-inactive = activity-idle idleOne (ap isEmpty (held-none [] [] []) ∙ empty-bag)
+
+module _ {P busy : ℕ} {inputs outputs : List bag.Bag} {phases : List Phase} (few : P ≤ maxWorkers) (manned : Manned P busy inputs outputs phases) where
+  -- the workers
+  abbrev crew : List Worker
+  crew = crewOf inputs outputs phases
+
+  -- are eight
+  there : P ≤ length crew
+  there = omega (arith, few, crew-long inputs outputs phases (manned .even))
+
+  -- one of them
+  pub worker-parts : (w : ℕ) → getD crew w pastCrew ≡ partsAt inputs outputs phases w
+  worker-parts w = crew-at inputs outputs phases w (manned .even)
+
+  -- no more are counted
+  pub busy-few : busy ≤ 8
+  busy-few = omega (arith, few, manned .counted, activities-few (take P crew), length-take-le P crew there)
+
+  -- one that isn't idle is among them
+  pub busy-some : (w : ℕ) → w < P → activityOf (partsAt inputs outputs phases w) ≡ 1 → 1 ≤ busy
+  busy-some w here active =
+      omega (arith, active, manned .counted, activity-set crew P pastCrew there w idleOne here, ap activityOf (worker-parts w), idle-inactive)
+
+  -- one worker is replaced
+  module _ {inputs′ outputs′ : List bag.Bag} {phases′ : List Phase} (even′ : Even maxWorkers inputs′ outputs′ phases′) (w : ℕ) (x : Worker) (here : w < P)
+      (after : crewOf inputs′ outputs′ phases′ ≡ set crew w x) {a b : ℕ} (new : a ≡ activityOf x) (old : b ≡ activityOf (partsAt inputs outputs phases w)) where
+    -- what is counted then
+    pub one-sum : sumOf activityOf (take P (crewOf inputs′ outputs′ phases′)) + b ≡ busy + a
+    one-sum = omega (
+      arith,
+      new,
+      old,
+      ap (λ (l : List Worker). sumOf activityOf (take P l)) after,
+      activity-set crew P pastCrew there w x here,
+      ap activityOf (worker-parts w),
+      manned .counted,
+    )
+
+    -- as the engine does
+    pub manned-one : Manned P (busy + a - b) inputs′ outputs′ phases′
+    manned-one = record { even = even′; counted = omega (arith, one-sum) }
+
+  -- two workers are
+  module _ {inputs′ outputs′ : List bag.Bag} {phases′ : List Phase} (even′ : Even maxWorkers inputs′ outputs′ phases′) (w v : ℕ) (x y : Worker)
+      (here : (w < P) × (v < P) × (w ≡ v → ⊥)) (after : crewOf inputs′ outputs′ phases′ ≡ set (set crew v y) w x) {a b : ℕ}
+      (new : a ≡ activityOf x + activityOf y) (old : b ≡ activityOf (partsAt inputs outputs phases w) + activityOf (partsAt inputs outputs phases v)) where
+    -- what is counted then
+    pub two-sum : sumOf activityOf (take P (crewOf inputs′ outputs′ phases′)) + b ≡ busy + a
+    two-sum = omega (
+      arith,
+      new,
+      old,
+      ap (λ (l : List Worker). sumOf activityOf (take P l)) after,
+      activity-set (set crew v y) P pastCrew (omega (arith, there, length-set crew v y)) w x (here .0),
+      ap activityOf (getD-set-other crew v w y pastCrew (here .2)),
+      activity-set crew P pastCrew there v y (here .1),
+      ap activityOf (worker-parts w),
+      ap activityOf (worker-parts v),
+      manned .counted,
+    )
+
+    -- as the engine does
+    pub manned-two : Manned P (busy + a - b) inputs′ outputs′ phases′
+    manned-two = record { even = even′; counted = omega (arith, two-sum) }
+
+-- As a layer opens.
+
+-- the first worker alone may be counted
+pub manned-opened : (P : ℕ) (b : bag.Bag) → 1 ≤ P → P ≤ maxWorkers → {busy : ℕ} {inputs outputs : List bag.Bag} {phases : List Phase}
+    → busy ≡ activityOf (workerFrom b emptyBagOf Free)
+    → inputs ≡ firstOfEight b → outputs ≡ firstOfEight emptyBagOf → phases ≡ allFree
+    → Manned P busy inputs outputs phases
+manned-opened P b some-worker few active first none free = rw (first, none, free) (record {
+  even = opened-even b;
+  counted =
+      active
+      ∙ sym (ap (λ (l : List Worker). sumOf activityOf (take P l)) (opened-parts b)
+      ∙ ap (sumOf activityOf) (opened-crew P b some-worker few)
+      ∙ sum-first activityOf idleOne (replicate P idleOne) (withInput idleOne b) (rw length-replicate some-worker)
+      (λ i. ap activityOf (getD-repeated P i idleOne) ∙ idle-inactive));
+})
