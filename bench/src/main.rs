@@ -10,7 +10,7 @@ use std::process::ExitCode;
 
 const USAGE: &str = "usage:
   hopbench table [REPEATS]
-      the benchmark, as Markdown; 15 repeats
+      the benchmark, as Markdown; 101 repeats
   hopbench differential [CASES [SEED [FIRST]]]
       the differential test; 20000 cases, seed 1; with FIRST only those cases from FIRST on
   hopbench one KIND N P SCHEDULE COUNT
@@ -45,7 +45,7 @@ fn one(kind: &str, n: &str, workers: &str, schedule: &str, count: &str) -> Resul
 
 fn run(arguments: &[&str]) -> Result<(), String> {
     match arguments {
-        ["table"] => table::table(15),
+        ["table"] => table::table(101),
         ["table", repeats] => table::table(number::<usize>(repeats)?.max(1)),
         ["differential"] => differential::differential(20_000, 1, None),
         ["differential", count] => differential::differential(number(count)?, 1, None),

@@ -13,7 +13,9 @@ use std::time::{Duration, Instant};
 const SIZES: [(usize, usize); 3] = [(64, 512), (512, 4_096), (4_096, 32_768)];
 const WORKERS: [usize; 3] = [1, 2, 8];
 const SEED: u64 = 1;
-const SHORTEST_BATCH: Duration = Duration::from_millis(10);
+/// Long enough for the clock, and short enough that the engines take turns after a call or a few:
+/// what the processor remembers of one's branches is then not its own call before.
+const SHORTEST_BATCH: Duration = Duration::from_micros(200);
 
 /// One row's input.
 pub struct Input {
@@ -182,26 +184,27 @@ fn measure(input: &Input, repeats: usize) -> Vec<Repeat> {
         .collect()
 }
 
-/// Median, least and greatest.
+/// Median, and what one in ten is below and above.
 struct Spread {
     median: f64,
-    least: f64,
-    most: f64,
+    low: f64,
+    high: f64,
 }
 
 impl Spread {
     fn new(values: impl Iterator<Item = f64>) -> Self {
         let mut values: Vec<f64> = values.collect();
         values.sort_by(f64::total_cmp);
+        let at = |tenths: usize| values[(values.len() - 1) * tenths / 10];
         Spread {
-            median: values[values.len() / 2],
-            least: values[0],
-            most: values[values.len() - 1],
+            median: at(5),
+            low: at(1),
+            high: at(9),
         }
     }
 
     fn ratio(&self) -> String {
-        format!("{:.2} ({:.2}–{:.2})", self.median, self.least, self.most)
+        format!("{:.2} ({:.2}–{:.2})", self.median, self.low, self.high)
     }
 }
 
@@ -306,7 +309,7 @@ fn inputs() -> impl Iterator<Item = Input> {
 
 /// The benchmark with so many repeats. An error says where the engines differ.
 pub fn table(repeats: usize) -> Result<(), String> {
-    println!("{CAPTION} Times are medians of {repeats} repeats; ratios too, with their least and greatest.\n");
+    println!("{CAPTION} Times are medians of {repeats} repeats; ratios too, with what one in ten is below and above.\n");
     print_heading(&HEADINGS.map(String::from));
     let mut rows = Vec::new();
     for input in inputs() {

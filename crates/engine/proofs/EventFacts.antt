@@ -2,6 +2,7 @@
 -- workers that are not idle is right.
 use mathlib.Core.Path.{_≡_, refl, sym, ap, ap₂, subst, _∙_}
 use mathlib.Core.Bool.{Bool, true, false, not, _&&_, true≢false}
+use mathlib.Core.Logic.{_⊎_}
 use mathlib.Core.List.{List, [], _∷_, map}
 use Prim.Native.Nat.{ℕ, _+_, _-_, _≤_, _<_}
 use native.Mathlib.Omega.{arith}
@@ -24,20 +25,20 @@ use Rattle.model.specs.Play.{play}
 use Rattle.workers.specs.declared.Phase.{Phase}
 use Rattle.workers.specs.declared.Phase.the-variants.{Free, Holding, InHand, Marked, Named}
 use Rattle.workers.specs.Shown.{Worker, workerFrom, workerOf, workersOf, crewOf, bagsOf, slotsOf}
-use Rattle.workers.specs.Steps.{Fits, Between, Advanced, Stocked, TookFrom, StowedInto, Workable, Worked, splitPair, unitePair, Exchanged, withInput}
+use Rattle.workers.specs.Steps.{EdgeOf, Fits, Between, Advanced, Stocked, TookFrom, StowedInto, Workable, Worked, splitPair, unitePair, Exchanged, withInput}
 use Rattle.workers.specs.Steps.{withOutput, NoInputs, Gatherable, Gathered, GatheredBags, activityOf, emptyBagOf, allFree, openedCrew}
 use Rattle.workers.proofs.CrewFacts.{pastCrew}
 use Rattle.workers.proofs.PartsFacts.{Even, partsAt, pastBag, crew-long, crew-begun, crew-stowed, crew-advanced, crew-input, crew-output, crew-outputs}
 use Rattle.workers.proofs.PartsFacts.{even-begun, even-stowed, even-advanced, even-input, even-output, firstOfEight, opened-as}
 use Rattle.workers.proofs.IdleFacts.{filled-active, held-active, idle-some}
 use Rattle.workers.proofs.RowFacts.{edge-small, fits-as}
-use Rattle.workers.proofs.MoveFacts.{input-pooled, output-pooled, work-input, work-begun, work-stowed, work-advanced}
+use Rattle.workers.proofs.MoveFacts.{input-pooled, output-pooled, between-others, work-input, work-begun, work-stowed, work-advanced}
 use Rattle.workers.proofs.ExchangeFacts.{split-made, split-unmet, unite-made, unite-unmet}
 use Rattle.workers.proofs.ExchangeFacts.{split-requires as split-pool, unite-requires as unite-pool}
 use Rattle.workers.proofs.GatherFacts.{outputsOf, firstInput, first-input, crew-pooled, crew-gathered}
 use Rattle.engine.specs.declared.Answer.{Answer}
 use Rattle.engine.specs.Runs.{answerOf, Ran}
-use Rattle.engine.proofs.PlayingFacts.{SameLengths, Playing, Turn, graph, staffed, malformed-on}
+use Rattle.engine.proofs.PlayingFacts.{SameLengths, Playing, Turn, layer-fits, staffed, malformed-on}
 use Rattle.engine.proofs.WorkFacts.{work-able, work-on, idle-on}
 use Rattle.engine.proofs.PairFacts.{splitting, uniting, pair-pool, pair-unmet, pair-on}
 use Rattle.engine.proofs.CloseFacts.{gather-able, close-unmet, raised-on, ended-ran}
@@ -52,10 +53,10 @@ pub record Going (source P : ℕ) (schedule offsets targets distances parents le
 -- a phase that isn't the free one
 abbrev Held : Phase → Type 0
 Held Free = ⊥
-Held (Holding u e) = Unit {0}
-Held (InHand u e t) = Unit {0}
-Held (Marked u e t) = Unit {0}
-Held (Named u e t) = Unit {0}
+Held (Holding u e f) = Unit {0}
+Held (InHand u e f t) = Unit {0}
+Held (Marked u e f t) = Unit {0}
+Held (Named u e f t) = Unit {0}
 
 -- both hold, so the second does
 and-right : (a b : Bool) → (a && b) ≡ true → b ≡ true
@@ -165,24 +166,27 @@ module _ {P busy : ℕ} {inputs outputs : List bag.Bag} {phases : List Phase} (m
       held-some = busy-some few manned w (staffed turn) held-one
 
     -- one that has named its target
-    module _ {u e t : ℕ} (named : getD phases w Free ≡ Named u e t) where
+    module _ {u e f t : ℕ} (named : getD phases w Free ≡ Named u e f t) where
       -- isn't free
       pub named-held : getD phases w Free ≡ Free → ⊥
       named-held free = subst Held (sym named ∙ free) tt
 
+      -- its edge is one of its vertex
+      named-edge : EdgeOf offsets (length distances) u e f
+      named-edge = fits-as offsets (length distances) named (able .phase-fits) .0
+
       -- what `stow` takes for granted
-      pub stow-able : (u + 1 < length offsets)
-          × ((e + 1 < 65536)
-          × (Pooled left right (getD outputs w pastBag .slots ∷ []) × ((length left ≤ length number) × (getD left 0 0 ≡ 0 → ⊥))))
-      stow-able =
-          let small = edge-small (able .rows) (fits-as offsets (length distances) named (able .phase-fits) .0) in (
-            small .vertex-below,
-            (small .edge-small, (output-pooled worker left right number (able .stocked), (able .stocked .numbered, able .room u e t named))),
-          )
+      pub stow-able : (e + 1 < 65536)
+          × (Pooled left right (getD outputs w pastBag .slots ∷ []) × ((length left ≤ length number) × (getD left 0 0 ≡ 0 → ⊥)))
+      stow-able = (
+        edge-small (able .rows) named-edge .edge-small,
+        (output-pooled worker left right number (able .stocked), (able .stocked .numbered, able .room u e f t named)),
+      )
 
       pub stowed-on : {left′ right′ number′ : List ℕ} {more : bag.Bag} {next : Phase} {a : ℕ}
-          → ((input : bag.Bag) → Stocked (workerFrom input (getD outputs w pastBag) (Named u e t)) left right number
-          → StowedInto (workerFrom input (getD outputs w pastBag) (Named u e t)) offsets left right number left′ right′ number′ (workerFrom input more next))
+          → ((input : bag.Bag) (offsets : List ℕ) → f ≡ getD offsets (u + 1) 0
+          → Stocked (workerFrom input (getD outputs w pastBag) (Named u e f t)) left right number
+          → StowedInto (workerFrom input (getD outputs w pastBag) (Named u e f t)) offsets left right number left′ right′ number′ (workerFrom input more next))
           → SameLengths distances parents left right number distances parents left′ right′ number′
           → ((output : bag.Bag) → a ≡ activityOf (workerFrom (getD inputs w pastBag) output next))
           → Going source P schedule offsets targets distances parents left′ right′ number′ inputs (set outputs w more) (set phases w next) (busy + a - 1)
@@ -202,31 +206,40 @@ module _ {P busy : ℕ} {inputs outputs : List bag.Bag} {phases : List Phase} (m
               StowedInto (workerFrom (getD inputs w pastBag) (getD outputs w pastBag) p) offsets left right number left′ right′ number′
               (workerFrom (getD inputs w pastBag) more next))
               (sym named)
-              (put (getD inputs w pastBag)
+              (put (getD inputs w pastBag) offsets (named-edge .ends)
               (subst (λ (p : Phase). Stocked (workerFrom (getD inputs w pastBag) (getD outputs w pastBag) p) left right number) named (able .stocked)))
 
+    -- the phase is neither free nor named
+    pub between-now : (tag : Phase → ℕ) → tag Free ≡ 0 → ((u e f t : ℕ) → tag (Named u e f t) ≡ 4)
+        → (tag (getD phases w Free) ≡ 1) ⊎ ((tag (getD phases w Free) ≡ 2) ⊎ ((tag (getD phases w Free) ≡ 3) ⊎ (tag (getD phases w Free) ≡ 4)))
+        → (tag (getD phases w Free) ≡ 0) ⊎ ((tag (getD phases w Free) ≡ 1) ⊎ ((tag (getD phases w Free) ≡ 2) ⊎ (tag (getD phases w Free) ≡ 3)))
+        → Between targets (length distances) (getD phases w Free)
+    between-now tag first last h k = between-others (able .rows) tag first last (getD phases w Free) (able .phase-fits) h k
+
     -- one between
-    module _ (between : Between (getD phases w Free)) where
+    module _ (between : Between targets (length distances) (getD phases w Free)) where
       -- isn't free
       pub between-held : getD phases w Free ≡ Free → ⊥
-      between-held free = subst Between free between
+      between-held free = subst (Between targets (length distances)) free between
 
       -- what `advance` takes for granted
-      pub advance-able : GraphRows offsets targets (length distances)
-          × ((length parents ≡ length distances)
-          × ((layer < length distances) × (Fits offsets (length distances) (getD phases w Free) × Between (getD phases w Free))))
-      advance-able = (able .rows, (able .parents-all, (able .layer-below, (able .phase-fits, between))))
+      pub advance-able : (length parents ≡ length distances)
+          × ((layer + 1 < 65536) × Between targets (length distances) (getD phases w Free))
+      advance-able = (able .parents-all, (layer-fits (turn .playing), between))
 
       pub advanced-on : {distances′ parents′ : List ℕ} {next : Phase} {a : ℕ}
-          → Advanced (getD phases w Free) layer offsets targets distances parents distances′ parents′ next
+          → ((offsets : List ℕ) → GraphRows offsets targets (length distances) → layer < length distances
+          → Fits offsets (length distances) (getD phases w Free)
+          → Advanced (getD phases w Free) layer offsets targets distances parents distances′ parents′ next)
           → SameLengths distances parents left right number distances′ parents′ left right number
           → ((output : bag.Bag) → a ≡ activityOf (workerFrom (getD inputs w pastBag) output next))
           → Going source P schedule offsets targets distances′ parents′ left right number inputs outputs (set phases w next) (busy + a - 1) (used + 1)
           (effective + 1) layer
-      advanced-on {distances′} {parents′} {next} {a} advanced lengths active = record {
+      advanced-on {distances′} {parents′} {next} {a} moved lengths active = record {
         playing = subst
             (λ (l : List Worker). Playing source P schedule offsets targets distances′ parents′ left right number l (used + 1) (effective + 1) layer)
-            (sym (crew-advanced even w next)) (moved-on (work-advanced able advanced) lengths);
+            (sym (crew-advanced even w next))
+            (moved-on (work-advanced able (moved offsets (able .rows) (able .layer-below) (able .phase-fits))) lengths);
         manned = manned-one few manned (even-advanced even w next) w (workerFrom (getD inputs w pastBag) (getD outputs w pastBag) next) (staffed turn)
             (crew-advanced even w next) (active (getD outputs w pastBag)) (sym (held-one between-held));
       }

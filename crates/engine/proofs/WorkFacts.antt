@@ -69,20 +69,20 @@ module _ {source P : ℕ} {schedule offsets targets distances parents left right
   stowed u i t = model.workerWith input (bagInsert t output) (holdAt (graph at) u (suc (i - getD offsets u 0)))
 
   -- if it is about to stow, the table has a move for it
-  stow-act : (u i t : ℕ) → worker .phase ≡ Named u i t
+  stow-act : (u i f t : ℕ) → worker .phase ≡ Named u i f t
       → act (graph at) (now-state at) (Work w) ≡ some (movedState (now-state at) w (stowed u i t, labelsOf distances parents))
   unfolding act afterMove move workerOf phaseOf stateOf stowed
-  stow-act u i t named =
+  stow-act u i f t named =
       ap (λ (y : model.Worker). afterMove (now-state at) w (moveOf (graph at) layer (labelsOf distances parents) y)) shown
       ∙ ap (λ (p : Phase). afterMove (now-state at) w (move (graph at) layer (labelsOf distances parents) input output (phaseOf offsets p))) named
 
   -- and a node is free for what it stows
-  stow-room : (u i t : ℕ) → worker .phase ≡ Named u i t → getD left 0 0 ≡ 0 → ⊥
+  stow-room : (u i f t : ℕ) → worker .phase ≡ Named u i f t → getD left 0 0 ≡ 0 → ⊥
   unfolding held stateOf workerOf stowed
-  stow-room u i t named =
+  stow-room u i f t named =
       let ws = workersOf offsets left right number (take P crew) in
       let load : model.Worker → ℕ = λ y. size (y .input) + size (y .output) in
-      let after = next-fits turn (stow-act u i t named) .all-held in
+      let after = next-fits turn (stow-act u i f t named) .all-held in
       let grown = sum-set load ws w (stowed u i t) model.idleWorker (rw length-map inside) in
       let before : load (model.workerAt ws w) ≡ size input + size output = ap load shown in
       let inserted = weigh-insert one t output in
@@ -99,7 +99,7 @@ module _ {source P : ℕ} {schedule offsets targets distances parents left right
     phase-fits = at .fits d w there;
     stocked = record { pool = rw (worker-here at d w there) at (pool-worker (take P crew) w d (at .pool) inside); numbered = at .ready .sized .numbered };
     input-below = λ v h. input-vertices v h;
-    room = λ u i t named. stow-room u i t named;
+    room = λ u i f t named. stow-room u i f t named;
   }
 
   -- the event by the worker's move

@@ -75,18 +75,10 @@ pub fn run(
                 } else if let Phase::Named {
                     vertex,
                     edge,
+                    end,
                     target,
                 } = phase {
-                    let stowed = stow(
-                        outputs[w],
-                        vertex,
-                        edge,
-                        target,
-                        offsets,
-                        left,
-                        right,
-                        number,
-                    );
+                    let stowed = stow(outputs[w], vertex, edge, end, target, left, right, number);
                     let more = stowed.output;
                     let next = stowed.phase;
                     outputs[w] = more;
@@ -94,7 +86,7 @@ pub fn run(
                     busy = busy + activity(next, inputs[w]) - 1;
                     effective += 1;
                 } else {
-                    let next = advance(phase, layer, offsets, targets, distances, parents);
+                    let next = advance(phase, layer, targets, distances, parents);
                     phases[w] = next;
                     busy = busy + activity(next, inputs[w]) - 1;
                     effective += 1;

@@ -48,10 +48,10 @@ busy-test tag none phase input output busy offsets left right number =
     not-free : (p : Phase) → OneOf (1 ∷ 2 ∷ 3 ∷ 4 ∷ []) (tag p) → false ≡ isFree (phaseOf offsets p)
     not-free Free h = absurd
         (⊎-elim (λ e. omega arith) (λ k. ⊎-elim (λ e. omega arith) (λ k. ⊎-elim (λ e. omega arith) (λ e. omega arith) k) k) h)
-    not-free (Holding u e) h = refl
-    not-free (InHand u e t) h = refl
-    not-free (Marked u e t) h = refl
-    not-free (Named u e t) h = refl
+    not-free (Holding u e f) h = refl
+    not-free (InHand u e f t) h = refl
+    not-free (Marked u e f t) h = refl
+    not-free (Named u e f t) h = refl
 
 -- All of them.
 
@@ -108,10 +108,10 @@ idle-done crew P w there before past offsets left right number =
 free-any : (offsets : List ℕ) (phase : Phase) → isFree (phaseOf offsets phase) ≡ isFree (phaseOf [] phase)
 unfolding phaseOf isFree
 free-any offsets Free = refl
-free-any offsets (Holding u e) = refl
-free-any offsets (InHand u e t) = refl
-free-any offsets (Marked u e t) = refl
-free-any offsets (Named u e t) = refl
+free-any offsets (Holding u e f) = refl
+free-any offsets (InHand u e f t) = refl
+free-any offsets (Marked u e f t) = refl
+free-any offsets (Named u e f t) = refl
 
 -- nor whether a worker is idle
 pub idle-any : (offsets left right number : List ℕ) (worker : Worker)
@@ -146,10 +146,10 @@ held-active worker held =
   where
     go : (p : Phase) → (p ≡ Free → ⊥) → isFree (phaseOf [] p) ≡ false
     go Free h = absurd (h refl)
-    go (Holding u e) h = refl
-    go (InHand u e t) h = refl
-    go (Marked u e t) h = refl
-    go (Named u e t) h = refl
+    go (Holding u e f) h = refl
+    go (InHand u e f t) h = refl
+    go (Marked u e f t) h = refl
+    go (Named u e f t) h = refl
 
 -- it is 1 at most
 pub activity-few : (worker : Worker) → activityOf worker ≤ 1

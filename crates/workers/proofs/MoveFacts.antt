@@ -27,7 +27,7 @@ use Rattle.workers.specs.Shown.{Worker, phaseOf, workerOf, bagsOf}
 use Rattle.graph.specs.Steps.{GraphRows}
 use Rattle.graph.proofs.GraphRowsFacts.{offsets-long}
 use Rattle.workers.specs.Steps.{EdgeOf, Fits, holdFrom, Between, Advanced, Apart, Stocked, TookFrom, StowedInto, Workable, Worked}
-use Rattle.workers.proofs.RowFacts.{hold-shown, hold-fits, pass-shown, pass-fits}
+use Rattle.workers.proofs.RowFacts.{hold-shown, hold-fits, edge-small, pass-shown, pass-fits}
 
 -- Two bags of one pool, of which one moves.
 
@@ -192,7 +192,7 @@ begin-held worker offsets left right number left′ rest value first phase free 
 -- Stow.
 
 -- the move in the table of a worker that has named its target
-named-move : (g : Graph) (layer : ℕ) (x : Labels) (offsets left right number : List ℕ) (worker : Worker) (u e t : ℕ) → worker .phase ≡ Named u e t
+named-move : (g : Graph) (layer : ℕ) (x : Labels) (offsets left right number : List ℕ) (worker : Worker) (u e f t : ℕ) → worker .phase ≡ Named u e f t
     → moveOf g layer x (workerOf offsets left right number worker)
     ≡ some (
       model.workerWith (heldBy left right number (worker .input .slots)) (bagInsert t (heldBy left right number (worker .output .slots)))
@@ -200,20 +200,20 @@ named-move : (g : Graph) (layer : ℕ) (x : Labels) (offsets left right number :
       x,
     )
 unfolding workerOf phaseOf move
-named-move g layer x offsets left right number worker u e t named =
+named-move g layer x offsets left right number worker u e f t named =
     let input = heldBy left right number (worker .input .slots) in
     let output = heldBy left right number (worker .output .slots) in
     ap (λ (p : Phase). move g layer x input output (phaseOf offsets p)) named
 
 -- a worker that has named its target inserts it and passes on
-pub stow-made : (worker : Worker) (u e t : ℕ) (offsets left right number left′ right′ number′ : List ℕ) (output : bag.Bag) → worker .phase ≡ Named u e t
+pub stow-made : (worker : Worker) (u e f t : ℕ) (offsets left right number left′ right′ number′ : List ℕ) (output : bag.Bag) → worker .phase ≡ Named u e f t
     → Stocked worker left right number
     → Inserted left right number (worker .output .slots) t left′ right′ number′ (output .slots)
     → StowedInto worker offsets left right number left′ right′ number′ (record { input = worker .input; output = output; phase = holdFrom offsets u (e + 1) })
 unfolding bagsOf workerOf
-stow-made worker u e t offsets left right number left′ right′ number′ output named stocked inserted = record {
+stow-made worker u e f t offsets left right number left′ right′ number′ output named stocked inserted = record {
   made = λ targets n ground fits layer distances parents.
-      named-move (rowsOf offsets targets) layer (labelsOf distances parents) offsets left right number worker u e t named
+      named-move (rowsOf offsets targets) layer (labelsOf distances parents) offsets left right number worker u e f t named
       ∙ sym (rw (input-same, inserted .held, pass-shown ground (edge n fits)));
   apart = record {
     moved = second-moved pool (inserted .moved);
@@ -226,7 +226,7 @@ stow-made worker u e t offsets left right number left′ right′ number′ outp
     pool = both-pooled worker left right number stocked
 
     -- its edge is one of u
-    edge : (n : ℕ) → Fits offsets n (worker .phase) → EdgeOf offsets n u e
+    edge : (n : ℕ) → Fits offsets n (worker .phase) → EdgeOf offsets n u e f
     edge n fits = subst (λ (p : Phase). Fits offsets n p) named fits .0
 
     -- the input bag holds what it held
@@ -234,45 +234,49 @@ stow-made worker u e t offsets left right number left′ right′ number′ outp
     input-same = second-held pool (inserted .moved) number number′ (inserted .kept-number)
 
 -- the same for a phase that is found to be the next one
-pub stow-held : (worker : Worker) (u e t : ℕ) (offsets left right number left′ right′ number′ : List ℕ) (output : bag.Bag) (phase : Phase)
-    → worker .phase ≡ Named u e t
+pub stow-held : (worker : Worker) (u e f t : ℕ) (offsets left right number left′ right′ number′ : List ℕ) (output : bag.Bag) (phase : Phase)
+    → worker .phase ≡ Named u e f t
     → Stocked worker left right number
     → Inserted left right number (worker .output .slots) t left′ right′ number′ (output .slots)
     → phase ≡ holdFrom offsets u (e + 1)
     → StowedInto worker offsets left right number left′ right′ number′ (record { input = worker .input; output = output; phase = phase })
-stow-held worker u e t offsets left right number left′ right′ number′ output phase named stocked inserted held =
+stow-held worker u e f t offsets left right number left′ right′ number′ output phase named stocked inserted held =
     subst (λ (p : Phase). StowedInto worker offsets left right number left′ right′ number′ (record { input = worker .input; output = output; phase = p }))
     (sym held)
-    (stow-made worker u e t offsets left right number left′ right′ number′ output named stocked inserted)
+    (stow-made worker u e f t offsets left right number left′ right′ number′ output named stocked inserted)
 
 -- The phases between.
 
--- a phase that is neither free nor named moves without a bag, whatever tells the phases apart
-pub between-others : (tag : Phase → ℕ) → tag Free ≡ 0 → ((u e t : ℕ) → tag (Named u e t) ≡ 4) → (phase : Phase)
+-- a phase that fits and is neither free nor named moves without a bag, whatever tells the phases apart
+pub between-others : {offsets targets : List ℕ} {n : ℕ} → GraphRows offsets targets n → (tag : Phase → ℕ) → tag Free ≡ 0
+    → ((u e f t : ℕ) → tag (Named u e f t) ≡ 4)
+    → (phase : Phase) → Fits offsets n phase
     → (tag phase ≡ 1) ⊎ ((tag phase ≡ 2) ⊎ ((tag phase ≡ 3) ⊎ (tag phase ≡ 4)))
     → (tag phase ≡ 0) ⊎ ((tag phase ≡ 1) ⊎ ((tag phase ≡ 2) ⊎ (tag phase ≡ 3)))
-    → Between phase
-between-others tag first last Free h k = later h
+    → Between targets n phase
+between-others ground tag first last Free fits h k = later h
   where
     later : (tag Free ≡ 1) ⊎ ((tag Free ≡ 2) ⊎ ((tag Free ≡ 3) ⊎ (tag Free ≡ 4))) → ⊥
     later (inl e) = omega (arith, first)
     later (inr (inl e)) = omega (arith, first)
     later (inr (inr (inl e))) = omega (arith, first)
     later (inr (inr (inr e))) = omega (arith, first)
-between-others tag first last (Holding u e) h k = tt
-between-others tag first last (InHand u e t) h k = tt
-between-others tag first last (Marked u e t) h k = tt
-between-others tag first last (Named u e t) h k = earlier k
+between-others ground tag first last (Holding u e f) fits h k =
+    let small = edge-small ground fits in
+    (small .edge-below, small .edge-small, small .target-below)
+between-others ground tag first last (InHand u e f t) fits h k = fits .1
+between-others ground tag first last (Marked u e f t) fits h k = fits .1
+between-others ground tag first last (Named u e f t) fits h k = earlier k
   where
-    earlier : (tag (Named u e t) ≡ 0) ⊎ ((tag (Named u e t) ≡ 1) ⊎ ((tag (Named u e t) ≡ 2) ⊎ (tag (Named u e t) ≡ 3))) → ⊥
-    earlier (inl q) = omega (arith, last u e t)
-    earlier (inr (inl q)) = omega (arith, last u e t)
-    earlier (inr (inr (inl q))) = omega (arith, last u e t)
-    earlier (inr (inr (inr q))) = omega (arith, last u e t)
+    earlier : (tag (Named u e f t) ≡ 0) ⊎ ((tag (Named u e f t) ≡ 1) ⊎ ((tag (Named u e f t) ≡ 2) ⊎ (tag (Named u e f t) ≡ 3))) → ⊥
+    earlier (inl q) = omega (arith, last u e f t)
+    earlier (inr (inl q)) = omega (arith, last u e f t)
+    earlier (inr (inr (inl q))) = omega (arith, last u e f t)
+    earlier (inr (inr (inr q))) = omega (arith, last u e f t)
 
 -- a phase that is known to be none of these
-pub not-between : {R : Type 0} {phase p : Phase} → phase ≡ p → (Between p → ⊥) → Between phase → R
-not-between is never h = absurd (never (subst Between is h))
+pub not-between : {R : Type 0} (targets : List ℕ) (n : ℕ) {phase p : Phase} → phase ≡ p → (Between targets n p → ⊥) → Between targets n phase → R
+not-between targets n is never h = absurd (never (subst (Between targets n) is h))
 
 -- Work.
 

@@ -43,7 +43,7 @@ module _ {offsets targets : List ℕ} {n : ℕ} (ground : GraphRows offsets targ
       size = length (edges (rowsOf offsets targets) u)
 
       go : (b : Bool) → ltb e (getD offsets (u + 1) 0) ≡ b
-          → phaseOf offsets (cond (ltb e (getD offsets (u + 1) 0)) (Holding u e) Free) ≡ cond (ltb (e - start) size) (model.holding u (e - start)) model.free
+          → phaseOf offsets (cond (ltb e (getD offsets (u + 1) 0)) (Holding u e (getD offsets (u + 1) 0)) Free) ≡ cond (ltb (e - start) size) (model.holding u (e - start)) model.free
       go true q = rw (q, lt-ltb (e - start) size (omega (arith, ltb-true e (getD offsets (u + 1) 0) q, row-ends ground u h)))
       go false q = rw (q, le-ltb (e - start) size (omega (arith, ltb-false e (getD offsets (u + 1) 0) q, row-ends ground u h)))
 
@@ -52,12 +52,12 @@ module _ {offsets targets : List ℕ} {n : ℕ} (ground : GraphRows offsets targ
   unfolding holdFrom
   hold-fits u e h k = go (ltb e (getD offsets (u + 1) 0)) refl
     where
-      go : (b : Bool) → ltb e (getD offsets (u + 1) 0) ≡ b → Fits offsets n (cond b (Holding u e) Free)
-      go true q = record { vertex = h; first = k; last = ltb-true e (getD offsets (u + 1) 0) q }
+      go : (b : Bool) → ltb e (getD offsets (u + 1) 0) ≡ b → Fits offsets n (cond b (Holding u e (getD offsets (u + 1) 0)) Free)
+      go true q = record { vertex = h; first = k; last = ltb-true e (getD offsets (u + 1) 0) q; ends = refl }
       go false q = tt
 
   -- an edge of a vertex is in the lists
-  pub edge-small : {u e : ℕ} → EdgeOf offsets n u e → EdgeSmall offsets targets n u e
+  pub edge-small : {u e f : ℕ} → EdgeOf offsets n u e f → EdgeSmall offsets targets n u e
   edge-small {u} {e} edge =
       let within = rows-within ground u (edge .vertex) in
       record {
@@ -71,20 +71,20 @@ module _ {offsets targets : List ℕ} {n : ℕ} (ground : GraphRows offsets targ
 
 module _ (offsets : List ℕ) (u e : ℕ) (end : ℕ) (at : end ≡ getD offsets (u + 1) 0) where
   -- before the end of the row it holds
-  pub hold-there : e < end → Holding u e ≡ holdFrom offsets u e
+  pub hold-there : e < end → Holding u e end ≡ holdFrom offsets u e
   unfolding holdFrom
-  hold-there h = rw (lt-ltb e (getD offsets (u + 1) 0) (omega (arith, at)))
+  hold-there h = rw (lt-ltb e (getD offsets (u + 1) 0) (omega (arith, at))) (ap (λ (f : ℕ). Holding u e f) at)
 
   -- and there it is free
   pub hold-free : end ≤ e → Free ≡ holdFrom offsets u e
   unfolding holdFrom
   hold-free h = rw (le-ltb e (getD offsets (u + 1) 0) (omega (arith, at)))
 
-module _ (offsets targets distances : List ℕ) (u e t word : ℕ) (target : t ≡ getD targets e 0) (label : word ≡ getD distances t 0) where
+module _ (offsets targets distances : List ℕ) (u e f t word : ℕ) (target : t ≡ getD targets e 0) (label : word ≡ getD distances t 0) where
   -- a target whose distance is unset is in hand
-  pub look-unset : word ≡ unset → InHand u e t ≡ lookAt offsets targets distances u e
+  pub look-unset : f ≡ getD offsets (u + 1) 0 → word ≡ unset → InHand u e f t ≡ lookAt offsets targets distances u e
   unfolding lookAt
-  look-unset q = rw (← target, ← label, q)
+  look-unset ends q = rw (← target, ← label, q) (ap (λ (k : ℕ). InHand u e k t) ends)
 
   -- another is passed
   pub look-set : (phase : Phase) → phase ≡ holdFrom offsets u (e + 1) → (word ≡ unset → ⊥) → phase ≡ lookAt offsets targets distances u e
@@ -93,7 +93,7 @@ module _ (offsets targets distances : List ℕ) (u e t word : ℕ) (target : t �
 
 -- At an edge of u.
 
-module _ {offsets targets : List ℕ} {n : ℕ} (ground : GraphRows offsets targets n) {u e : ℕ} (edge : EdgeOf offsets n u e) where
+module _ {offsets targets : List ℕ} {n : ℕ} (ground : GraphRows offsets targets n) {u e f : ℕ} (edge : EdgeOf offsets n u e f) where
   -- edge e of all is the model's edge of u
   edge-target : edgeTarget (rowsOf offsets targets) u (e - getD offsets u 0) ≡ getD targets e 0
   edge-target =
@@ -117,8 +117,8 @@ module _ {offsets targets : List ℕ} {n : ℕ} (ground : GraphRows offsets targ
 
 -- The three moves without a bag.
 
-module _ {offsets targets : List ℕ} (distances : List ℕ) (ground : GraphRows offsets targets (length distances)) {u e : ℕ}
-    (edge : EdgeOf offsets (length distances) u e) where
+module _ {offsets targets : List ℕ} (distances : List ℕ) (ground : GraphRows offsets targets (length distances)) {u e f : ℕ}
+    (edge : EdgeOf offsets (length distances) u e f) where
   -- the engine looks where the model does
   look-shown : (parents : List ℕ)
       → phaseOf offsets (lookAt offsets targets distances u e) ≡ look (rowsOf offsets targets) (labelsOf distances parents) u (e - getD offsets u 0)
@@ -133,7 +133,7 @@ module _ {offsets targets : List ℕ} (distances : List ℕ) (ground : GraphRows
       t : ℕ
       t = getD targets e 0
 
-      go : (b : Bool) → phaseOf offsets (cond b (InHand u e t) (holdFrom offsets u (e + 1)))
+      go : (b : Bool) → phaseOf offsets (cond b (InHand u e (getD offsets (u + 1) 0) t) (holdFrom offsets u (e + 1)))
           ≡ cond (isSet (cond b none (some (getD distances t 0)))) (holdAt (rowsOf offsets targets) u (suc i)) (model.inHand u i t)
       go true = refl
       go false = pass-shown ground edge
@@ -143,13 +143,16 @@ module _ {offsets targets : List ℕ} (distances : List ℕ) (ground : GraphRows
   unfolding lookAt
   look-fits = go (eqb (getD distances (getD targets e 0) 0) unset)
     where
-      go : (b : Bool) → Fits offsets (length distances) (cond b (InHand u e (getD targets e 0)) (holdFrom offsets u (e + 1)))
-      go true = (edge, edge-small ground edge .target-below)
+      go : (b : Bool) → Fits offsets (length distances) (cond b (InHand u e (getD offsets (u + 1) 0) (getD targets e 0)) (holdFrom offsets u (e + 1)))
+      go true = (
+        record { vertex = edge .vertex; first = edge .first; last = edge .last; ends = refl },
+        edge-small ground edge .target-below,
+      )
       go false = pass-fits ground edge
 
   -- look
   pub advance-look : (layer : ℕ) (parents : List ℕ)
-      → Advanced (Holding u e) layer offsets targets distances parents distances parents (lookAt offsets targets distances u e)
+      → Advanced (Holding u e f) layer offsets targets distances parents distances parents (lookAt offsets targets distances u e)
   unfolding move phaseOf
   advance-look layer parents = record {
     made = λ input output. ap (λ (phase : model.Phase). some (model.workerWith input output phase, labelsOf distances parents)) (sym (look-shown parents));
@@ -158,7 +161,7 @@ module _ {offsets targets : List ℕ} (distances : List ℕ) (ground : GraphRows
 
   -- mark
   pub advance-mark : (layer t : ℕ) (parents : List ℕ) → t < length distances → layer < length distances
-      → Advanced (InHand u e t) layer offsets targets distances parents (set distances t (layer + 1)) parents (Marked u e t)
+      → Advanced (InHand u e f t) layer offsets targets distances parents (set distances t (layer + 1)) parents (Marked u e f t)
   unfolding move phaseOf
   advance-mark layer t parents h k = record {
     made = λ input output.
@@ -169,7 +172,7 @@ module _ {offsets targets : List ℕ} (distances : List ℕ) (ground : GraphRows
 
   -- name
   pub advance-name : (layer t : ℕ) (parents : List ℕ) → t < length distances
-      → Advanced (Marked u e t) layer offsets targets distances parents distances (set parents t u) (Named u e t)
+      → Advanced (Marked u e f t) layer offsets targets distances parents distances (set parents t u) (Named u e f t)
   unfolding move phaseOf
   advance-name layer t parents h = record {
     made = λ input output.
@@ -187,20 +190,20 @@ fits-as offsets n is fits = subst (Fits offsets n) is fits
 module _ {offsets targets : List ℕ} (distances : List ℕ) (ground : GraphRows offsets targets (length distances)) (phase : Phase)
     (fits : Fits offsets (length distances) phase) (layer : ℕ) (parents : List ℕ) where
   -- look
-  pub advanced-look : (u e : ℕ) (phase′ : Phase) → phase ≡ Holding u e → phase′ ≡ lookAt offsets targets distances u e
+  pub advanced-look : (u e f : ℕ) (phase′ : Phase) → phase ≡ Holding u e f → phase′ ≡ lookAt offsets targets distances u e
       → Advanced phase layer offsets targets distances parents distances parents phase′
-  advanced-look u e phase′ is found = rw (is, found) (advance-look distances ground (fits-as offsets (length distances) is fits) layer parents)
+  advanced-look u e f phase′ is found = rw (is, found) (advance-look distances ground (fits-as offsets (length distances) is fits) layer parents)
 
   -- mark
-  pub advanced-mark : (u e t : ℕ) (distances′ : List ℕ) → layer < length distances → phase ≡ InHand u e t → distances′ ≡ set distances t (layer + 1)
-      → Advanced phase layer offsets targets distances parents distances′ parents (Marked u e t)
-  advanced-mark u e t distances′ low is put =
+  pub advanced-mark : (u e f t : ℕ) (distances′ : List ℕ) → layer < length distances → phase ≡ InHand u e f t → distances′ ≡ set distances t (layer + 1)
+      → Advanced phase layer offsets targets distances parents distances′ parents (Marked u e f t)
+  advanced-mark u e f t distances′ low is put =
       let both = fits-as offsets (length distances) is fits in
       rw (is, put) (advance-mark distances ground (both .0) layer t parents (both .1) low)
 
   -- name
-  pub advanced-name : (u e t : ℕ) (parents′ : List ℕ) → phase ≡ Marked u e t → parents′ ≡ set parents t u
-      → Advanced phase layer offsets targets distances parents distances parents′ (Named u e t)
-  advanced-name u e t parents′ is put =
+  pub advanced-name : (u e f t : ℕ) (parents′ : List ℕ) → phase ≡ Marked u e f t → parents′ ≡ set parents t u
+      → Advanced phase layer offsets targets distances parents distances parents′ (Named u e f t)
+  advanced-name u e f t parents′ is put =
       let both = fits-as offsets (length distances) is fits in
       rw (is, put) (advance-name distances ground (both .0) layer t parents (both .1))

@@ -34,10 +34,10 @@ slotsOf b = b .slots
 -- the phase that an engine's phase stands for: the engine counts edges through all rows, the model from the start of u's row
 unfoldable pub phaseOf : List ℕ → Phase → model.Phase
 phaseOf offsets Free = model.free
-phaseOf offsets (Holding u e) = model.holding u (e - getD offsets u 0)
-phaseOf offsets (InHand u e t) = model.inHand u (e - getD offsets u 0) t
-phaseOf offsets (Marked u e t) = model.marked u (e - getD offsets u 0) t
-phaseOf offsets (Named u e t) = model.named u (e - getD offsets u 0) t
+phaseOf offsets (Holding u e f) = model.holding u (e - getD offsets u 0)
+phaseOf offsets (InHand u e f t) = model.inHand u (e - getD offsets u 0) t
+phaseOf offsets (Marked u e f t) = model.marked u (e - getD offsets u 0) t
+phaseOf offsets (Named u e f t) = model.named u (e - getD offsets u 0) t
 
 -- the worker that an engine's worker stands for: the numbers that its bags hold, and its phase
 unfoldable pub workerOf : List ℕ → List ℕ → List ℕ → List ℕ → Worker → model.Worker

@@ -30,38 +30,39 @@ pub record Tried {A : Type 0} (o : Option A) (old new : A) (met : Bool) : Type 0
 
 -- Rows.
 
--- edge e, counted through all rows, is one of vertex u
-pub record EdgeOf (offsets : List ℕ) (n u e : ℕ) : Type 0 where
+-- edge e, counted through all rows, is one of vertex u, whose edges end at f
+pub record EdgeOf (offsets : List ℕ) (n u e f : ℕ) : Type 0 where
   pub vertex : u < n
   pub first : getD offsets u 0 ≤ e
   pub last : e < getD offsets (u + 1) 0
+  pub ends : f ≡ getD offsets (u + 1) 0
 
 -- a phase whose edge is one of its vertex, and whose target is a vertex
 abbrev pub Fits : List ℕ → ℕ → Phase → Type 0
 Fits offsets n Free = Unit {0}
-Fits offsets n (Holding u e) = EdgeOf offsets n u e
-Fits offsets n (InHand u e t) = EdgeOf offsets n u e × (t < n)
-Fits offsets n (Marked u e t) = EdgeOf offsets n u e × (t < n)
-Fits offsets n (Named u e t) = EdgeOf offsets n u e × (t < n)
+Fits offsets n (Holding u e f) = EdgeOf offsets n u e f
+Fits offsets n (InHand u e f t) = EdgeOf offsets n u e f × (t < n)
+Fits offsets n (Marked u e f t) = EdgeOf offsets n u e f × (t < n)
+Fits offsets n (Named u e f t) = EdgeOf offsets n u e f × (t < n)
 
 -- One worker's move.
 
 -- `hold`: at edge e of u, or free where u has no such edge
 unfoldable pub holdFrom : List ℕ → ℕ → ℕ → Phase
-holdFrom offsets u e = cond (ltb e (getD offsets (u + 1) 0)) (Holding u e) Free
+holdFrom offsets u e = cond (ltb e (getD offsets (u + 1) 0)) (Holding u e (getD offsets (u + 1) 0)) Free
 
 -- `look`: at edge e of u
 unfoldable pub lookAt : List ℕ → List ℕ → List ℕ → ℕ → ℕ → Phase
 lookAt offsets targets distances u e =
-    cond (eqb (getD distances (getD targets e 0) 0) unset) (InHand u e (getD targets e 0)) (holdFrom offsets u (e + 1))
+    cond (eqb (getD distances (getD targets e 0) 0) unset) (InHand u e (getD offsets (u + 1) 0) (getD targets e 0)) (holdFrom offsets u (e + 1))
 
--- a phase that moves without a bag
-abbrev pub Between : Phase → Type 0
-Between Free = ⊥
-Between (Holding u e) = Unit {0}
-Between (InHand u e t) = Unit {0}
-Between (Marked u e t) = Unit {0}
-Between (Named u e t) = ⊥
+-- a phase that moves without a bag, with an edge that is in the targets, to a vertex
+abbrev pub Between : List ℕ → ℕ → Phase → Type 0
+Between targets n Free = ⊥
+Between targets n (Holding u e f) = (e < length targets) × (e + 1 < 65536) × (getD targets e 0 < n)
+Between targets n (InHand u e f t) = t < n
+Between targets n (Marked u e f t) = t < n
+Between targets n (Named u e f t) = ⊥
 
 -- `advance`: such a move
 pub record Advanced (phase : Phase) (layer : ℕ) (offsets targets distances parents distances′ parents′ : List ℕ) (phase′ : Phase) : Type 0 where
@@ -107,7 +108,7 @@ pub record Workable (worker : Worker) (layer : ℕ) (offsets targets distances p
   -- the numbers in its input bag are vertices
   pub input-below : (v : ℕ) → 1 ≤ copies v (heldBy left right number (worker .input .slots)) → v < length distances
   -- a node is free for what it is about to insert
-  pub room : (u e t : ℕ) → worker .phase ≡ Named u e t → getD left 0 0 ≡ 0 → ⊥
+  pub room : (u e f t : ℕ) → worker .phase ≡ Named u e f t → getD left 0 0 ≡ 0 → ⊥
 
 -- and what it does: worker and labels are moved as the table says
 pub record Worked (worker : Worker) (layer : ℕ)

@@ -19,26 +19,30 @@ pub use moves::begin;
 pub use moves::stow;
 
 // "A worker is free, holds a device with a link to look at, or is partway through a link": the
-// vertex, its edge by its place in the targets, and the edge's target.
+// vertex, its edge by its place in the targets, where the vertex's edges end, and the edge's target.
 pub enum Phase {
     Free,
     Holding {
         vertex: u16,
         edge: usize,
+        end: usize,
     },
     InHand {
         vertex: u16,
         edge: usize,
+        end: usize,
         target: u16,
     },
     Marked {
         vertex: u16,
         edge: usize,
+        end: usize,
         target: u16,
     },
     Named {
         vertex: u16,
         edge: usize,
+        end: usize,
         target: u16,
     },
 }

@@ -1,7 +1,7 @@
 // One worker's moves: take from the input bag, look at an edge, mark, name, stow.
 ghost use mathlib.Core.Path.{_≡_};
 ghost use mathlib.Core.Bool.{false};
-ghost use mathlib.Core.List.{[], _∷_};
+ghost use mathlib.Core.List.{List, [], _∷_};
 ghost use Prim.Native.Nat.{ℕ, _+_, _≤_, _<_};
 ghost use lib.ListN.{length, getD};
 ghost use Rattle.pennant.specs.Held.{copies};
@@ -22,82 +22,87 @@ use lists::at;
 use lists::put;
 
 // The phase at this edge of the vertex: "A device whose links are used up frees its worker."
-fn hold(vertex: u16, edge: usize, offsets: &[u16]) -> Phase
-    requires { ⌜ vertex + 1 < length (now offsets) ⌝ }
-    ensures { λ r. ⌜ r ≡ holdFrom (now (offsets .entry)) vertex edge ⌝ }
+fn hold(vertex: u16, edge: usize, end: usize) -> Phase
+    ensures { λ r. ⌜ ((offsets : List ℕ) → end ≡ getD offsets (vertex + 1) 0 → r ≡ holdFrom offsets vertex edge) ⌝ }
 {
-    if edge < element(offsets, wide16(vertex) + 1) {
-        Phase::Holding { vertex, edge }
+    if edge < end {
+        Phase::Holding { vertex, edge, end }
     } else {
         Phase::Free
     }
 }
 
 // "it looks at the next target t; if t's distance is unset it has t in hand, else it passes on".
-fn look(vertex: u16, edge: usize, offsets: &[u16], targets: &[u16], distances: &[u16]) -> Phase
-    requires { ⌜ vertex + 1 < length (now offsets) ⌝ }
+fn look(vertex: u16, edge: usize, end: usize, targets: &[u16], distances: &[u16]) -> Phase
     requires { ⌜ edge < length (now targets) ⌝ }
     requires { ⌜ edge + 1 < 65536 ⌝ }
     requires { ⌜ getD (now targets) edge 0 < length (now distances) ⌝ }
-    ensures { λ r. ⌜ r ≡ lookAt (now (offsets .entry)) (now (targets .entry)) (now (distances .entry)) vertex edge ⌝ }
+    ensures { λ r. ⌜ ((offsets : List ℕ) → end ≡ getD offsets (vertex + 1) 0 → r ≡ lookAt offsets (now (targets .entry)) (now (distances .entry)) vertex edge) ⌝ }
 {
     let target = targets[edge];
     if at(distances, target) == numbers::UNSET {
         return Phase::InHand {
             vertex,
             edge,
+            end,
             target,
         };
     }
-    hold(vertex, edge + 1, offsets)
+    hold(vertex, edge + 1, end)
 }
 
 // A move that needs no bag: look, mark or name.
 pub fn advance(
     phase: Phase,
     layer: u16,
-    offsets: &[u16],
     targets: &[u16],
     distances: &mut [u16],
     parents: &mut [u16],
 ) -> Phase
-    requires { ⌜ GraphRows (now offsets) (now targets) (length (now distances)) ⌝ }
     requires { ⌜ length (now parents) ≡ length (now distances) ⌝ }
-    requires { ⌜ layer < length (now distances) ⌝ }
-    requires { ⌜ Fits (now offsets) (length (now distances)) phase ⌝ }
-    requires { ⌜ Between phase ⌝ }
-    ensures { λ r. ⌜ Advanced phase layer (now (offsets .entry)) (now (targets .entry)) (now (distances .entry)) (now (parents .entry)) (now (distances .exit)) (now (parents .exit)) r ⌝ }
+    requires { ⌜ layer + 1 < 65536 ⌝ }
+    requires { ⌜ Between (now targets) (length (now distances)) phase ⌝ }
+    ensures { λ r. ⌜
+        ((offsets : List ℕ) → GraphRows offsets (now (targets .entry)) (length (now (distances .entry))) → layer < length (now (distances .entry))
+        → Fits offsets (length (now (distances .entry))) phase
+        → Advanced phase layer offsets (now (targets .entry)) (now (distances .entry)) (now (parents .entry)) (now (distances .exit)) (now (parents .exit)) r)
+        ⌝ }
 {
     match phase {
         Phase::Free => phase,
-        Phase::Holding { vertex, edge } => look(vertex, edge, offsets, targets, distances),
+        Phase::Holding { vertex, edge, end } => look(vertex, edge, end, targets, distances),
         Phase::InHand {
             vertex,
             edge,
+            end,
             target,
         } => {
             put(distances, target, layer + 1);
             Phase::Marked {
                 vertex,
                 edge,
+                end,
                 target,
             }
         }
         Phase::Marked {
             vertex,
             edge,
+            end,
             target,
         } => {
             put(parents, target, vertex);
             Phase::Named {
                 vertex,
                 edge,
+                end,
                 target,
             }
         }
         Phase::Named {
             vertex: _,
             edge: _,
+            end: _,
             target: _,
         } => phase,
     }
@@ -120,7 +125,11 @@ pub fn begin(input: Bag, offsets: &[u16], left: &mut [u16], right: &[u16], numbe
     let vertex = taken.number;
     Begun {
         input: rest,
-        phase: hold(vertex, wide16(at(offsets, vertex)), offsets),
+        phase: hold(
+            vertex,
+            wide16(at(offsets, vertex)),
+            element(offsets, wide16(vertex) + 1),
+        ),
     }
 }
 
@@ -129,25 +138,25 @@ pub fn stow(
     output: Bag,
     vertex: u16,
     edge: usize,
+    end: usize,
     target: u16,
-    offsets: &[u16],
     left: &mut [u16],
     right: &mut [u16],
     number: &mut [u16],
 ) -> Stowed
-    requires { ⌜ vertex + 1 < length (now offsets) ⌝ }
     requires { ⌜ edge + 1 < 65536 ⌝ }
     requires { ⌜ Pooled (now left) (now right) (output .slots ∷ []) ⌝ }
     requires { ⌜ length (now left) ≤ length (now number) ⌝ }
     requires { ⌜ (getD (now left) 0 0 ≡ 0 → ⊥) ⌝ }
     ensures { λ r. ⌜
-        ((input : declared.Bag) → Stocked (workerFrom input output (Phase.Named vertex edge target)) (now (left .entry)) (now (right .entry)) (now (number .entry))
-        → StowedInto (workerFrom input output (Phase.Named vertex edge target)) (now (offsets .entry)) (now (left .entry)) (now (right .entry)) (now (number .entry))
+        ((input : declared.Bag) (offsets : List ℕ) → end ≡ getD offsets (vertex + 1) 0
+        → Stocked (workerFrom input output (Phase.Named vertex edge end target)) (now (left .entry)) (now (right .entry)) (now (number .entry))
+        → StowedInto (workerFrom input output (Phase.Named vertex edge end target)) offsets (now (left .entry)) (now (right .entry)) (now (number .entry))
         (now (left .exit)) (now (right .exit)) (now (number .exit)) (workerFrom input (r .output) (r .phase)))
         ⌝ }
 {
     Stowed {
         output: bag::insert(output, target, left, right, number),
-        phase: hold(vertex, edge + 1, offsets),
+        phase: hold(vertex, edge + 1, end),
     }
 }

@@ -18,14 +18,13 @@ use Rattle.workers.specs.declared.Phase.the-variants.{Free}
 use Rattle.workers.specs.Shown.{crewOf, workersOf}
 use Rattle.workers.specs.Steps.{Between, emptyBagOf}
 use Rattle.workers.proofs.Phase.{the-type}
-use Rattle.workers.proofs.MoveFacts.{between-others}
 use Rattle.workers.proofs.PartsFacts.{pastBag, firstOfEight, opened-as}
 use Rattle.engine.proofs.PlayingFacts.{SameLengths, same-all, same-then, same-start, same-left, same-labels, same-nodes, same-links, Turn, placed, layer-fits}
 use Rattle.engine.proofs.PlayingFacts.{used-fits, staffed, effective-fits}
 use Rattle.engine.proofs.StartFacts.{source-there, start-on}
 use Rattle.engine.proofs.CloseFacts.{spent-ran}
 use Rattle.engine.proofs.BusyFacts.{busy-few, manned-opened}
-use Rattle.engine.proofs.EventFacts.{Going, begin-able, rest-on, filled-some, begun-on, held-some, named-held, stow-able, stowed-on, between-held}
+use Rattle.engine.proofs.EventFacts.{Going, begin-able, rest-on, filled-some, begun-on, held-some, named-held, stow-able, stowed-on, between-now, between-held}
 use Rattle.engine.proofs.EventFacts.{advance-able, advanced-on, split-able, split-unmet-on, split-on, unite-able, unite-unmet-on, unite-on}
 use Rattle.engine.proofs.EventFacts.{busy-on, busy-told, gather-pooled, opened-on, finished-ran, strange-on}
 use Rattle.engine.proofs.run.run.Statement.{statement}
@@ -128,10 +127,11 @@ filled : (c : tie.Then1 Inv-loop μ-loop) → let now = c .before .before .befor
 filled c = sym (c .before .is-empty .ensures _ _) ∙ not-true _ (c .if1 .taken)
 
 -- the phase is one between
-between : (c : tie.At-match3-keys2 Inv-loop μ-loop) → Between (getD (c .before .before .before .before .before .before .before .before .before .loop .phases) (c .before .before .before .before .event .given .0 .0) Free)
+between : (c : tie.At-match3-keys2 Inv-loop μ-loop) → let at = c .before .before .before .before .before .before .before .before .before in
+    Between (start-of at .args .targets .now) (length (at .loop .distances)) (getD (at .loop .phases) (c .before .before .before .before .event .given .0 .0) Free)
 between c =
-    between-others (tagOf the-type) refl (λ u e t. refl)
-    (getD (c .before .before .before .before .before .before .before .before .before .loop .phases) (c .before .before .before .before .event .given .0 .0) Free) (c .before .match2 .keys2) (c .match3 .keys2)
+    between-now (c .before .before .before .before .before .before .before .before .before .loop .inv .0 .manned) (work-turn (c .before .before .before .before)) (tagOf the-type) refl
+    (λ u e f t. refl) (c .before .match2 .keys2) (c .match3 .keys2)
 
 -- the workers were found idle before they gathered
 idle-told : (c : tie.Then5 Inv-loop μ-loop) → let at = c .before .before .before .before .before .before .before .before in
@@ -570,7 +570,7 @@ loop-less-4 c = search needs
 loop-again-4 : tie.Need-loop-again-4 Inv-loop μ-loop
 loop-again-4 c =
     let advanced = (advance-of-activity4 c) in
-    let same = same-labels (advanced .advance .kept .1 .1 .1 .1) in (
+    let same = same-labels (advanced .advance .kept .1 .1 .1) in (
       advanced-on ((loop-of-activity4 c) .loop .inv .0 .manned) (work-turn (event-of-activity4 c)) (between (match3-keys2-of-activity4 c)) (advanced .advance .ensures) same (c .activity4 .ensures .0),
       same-then ((loop-of-activity4 c) .loop .inv .1) same,
     )

@@ -1,9 +1,9 @@
 -- `workers::moves::begin` meets its contract: the worker takes a vertex and holds it, whatever its output bag is.
 use borrow.Author.Needs.{needs}
 use native.Mathlib.Omega.{arith}
-use mathlib.Core.Path.{refl, _∙_}
-use Prim.Native.Nat.{_+_, _<_}
-use lib.ListN.{length}
+use mathlib.Core.Path.{_≡_, refl, ap, _∙_}
+use Prim.Native.Nat.{ℕ, _+_, _<_}
+use lib.ListN.{length, getD}
 use Rattle.workers.specs.declared.Phase.the-variants.{Free}
 use Rattle.workers.specs.Shown.{workerFrom}
 use Rattle.workers.proofs.MoveFacts.{taken-below, begin-held}
@@ -32,21 +32,39 @@ at-requires c κs = omega (arith, below (c .before .before .before))
 wide16-requires : tie.Need-wide16-requires
 wide16-requires c κs = search needs
 
+wide16-requires-2 : tie.Need-wide16-requires-2
+wide16-requires-2 c κs = search needs
+
+add-element : tie.Need-add-element
+add-element c = search needs
+
+element-requires : tie.Need-element-requires
+element-requires c κs = omega (arith, below (c .before .before .before .before .before .before), c .wide162 .ensures .0)
+
 hold-requires : tie.Need-hold-requires
-hold-requires c κs = below (c .before .before .before .before .before)
+hold-requires c κs = search needs
 
 same-length : tie.Need-same-length
 same-length c = search needs
 
+-- the element read is where the row ends
+row-end : (c : tie.After-element) → let here = c .before .before .before .before .before .before .before in
+    c .element .result ≡ getD (start here .args .offsets .now) (here .take .result .number + 1) 0
+row-end c =
+    let here = c .before .before .before .before .before .before .before in
+    c .element .ensures .0 ∙ ap (λ (i : ℕ). getD (start here .args .offsets .now) (i + 1) 0) (c .before .wide162 .ensures .0)
+
 returns : tie.Need-returns
 returns c = λ output stocked.
-    let here = c .before .before .before .before .before .before in
+    let here = c .before .before .before .before .before .before .before .before in
     let s = start here in
     let a = s .args in
     let taken = here .take in
+    let first = c .before .before .before in
     begin-held (workerFrom (a .input) output Free) (a .offsets .now) (a .left .now) (a .right .now) (a .number .now) (taken .last .1 .0) (taken .result .bag)
-    (taken .result .number) (c .before .wide16 .result) (c .hold .result) refl stocked (s .pre .1 .1 .0) (taken .ensures) (below here)
-    (c .before .wide16 .ensures .0 ∙ c .before .before .at .ensures) (c .hold .ensures)
+    (taken .result .number) (first .wide16 .result) (c .hold .result) refl stocked (s .pre .1 .1 .0) (taken .ensures) (below here)
+    (first .wide16 .ensures .0 ∙ first .before .at .ensures) (c .hold .ensures (a .offsets .now) (row-end (c .before)))
 
 pub begin-spec : {M : Type 1} → statement M
-begin-spec = tie.close (tie.spec take-requires at-requires wide16-requires hold-requires same-length returns)
+begin-spec =
+    tie.close (tie.spec take-requires at-requires wide16-requires wide16-requires-2 add-element element-requires hold-requires same-length returns)

@@ -26,14 +26,14 @@ same-length-3 : tie.Need-same-length-3
 same-length-3 c = search needs
 
 returns : tie.Need-returns
-returns c = λ input stocked.
+returns c = λ input offsets ends stocked.
     let inserted = c .before .before .before .before .before .before .before in
-    let start = inserted .before .before .before .before .before .before .before .before in
+    let start = inserted .before .before .before .before .before .before .before in
     let a = start .args in
     let made = inserted .insert in
-    stow-held (workerFrom input (a .output) (Named (a .vertex) (a .edge) (a .target))) (a .vertex) (a .edge) (a .target) (a .offsets .now) (a .left .now)
+    stow-held (workerFrom input (a .output) (Named (a .vertex) (a .edge) (a .end) (a .target))) (a .vertex) (a .edge) (a .end) (a .target) offsets (a .left .now)
     (a .right .now) (a .number .now) (made .last .1 .1 .0) (made .last .1 .1 .1 .0) (made .last .1 .1 .1 .1 .0) (made .result) (c .hold .result)
-    refl stocked (made .ensures) (c .hold .ensures)
+    refl stocked (made .ensures) (c .hold .ensures offsets ends)
 
 pub stow-spec : {M : Type 1} → statement M
 stow-spec =
