@@ -1,5 +1,6 @@
 //! Document 01's bench cases A to I, with what they must answer and leave.
 
+use crate::calls::Query;
 use crate::inputs::bytes_of;
 
 /// A search from source 0, its answer, and the labels that it leaves, of an accepted file.
@@ -75,6 +76,16 @@ pub fn bench_cases() -> Vec<Case> {
 }
 
 impl Case {
+    /// The case as a call's input.
+    pub fn query(&self) -> Query<'_> {
+        Query {
+            file: &self.file,
+            source: 0,
+            workers: self.workers,
+            schedule: &self.schedule,
+        }
+    }
+
     /// Whether an answer or the labels beside it are not this case's.
     pub fn wrong(&self, answer: [u32; 4], distances: &[u16], parents: &[u16]) -> bool {
         let labels = self.labels.iter().enumerate();
@@ -98,13 +109,7 @@ mod tests {
     fn plain_search_has_the_cases() {
         for case in bench_cases() {
             let mut lists = Lists::filled(ample(4, 4, 9), || 77);
-            let query = Query {
-                file: &case.file,
-                source: 0,
-                workers: case.workers,
-                schedule: &case.schedule,
-            };
-            let outcome = Plain.call(Call::Search, &query, &mut lists);
+            let outcome = Plain.call(Call::Search, &case.query(), &mut lists);
             let (distances, parents) = (&lists.words[DISTANCES], &lists.words[PARENTS]);
             assert!(
                 !case.wrong(outcome.answer, distances, parents),

@@ -53,13 +53,7 @@ fn demand(holds: bool, what: impl FnOnce() -> String) -> Result<(), String> {
 fn bench(tally: &mut Tally) -> Result<(), String> {
     for case in bench_cases() {
         let mut lists = Lists::filled(ample(4, 4, 9), || 77);
-        let query = Query {
-            file: &case.file,
-            source: 0,
-            workers: case.workers,
-            schedule: &case.schedule,
-        };
-        let outcome = side_by_side(Call::Search, &query, &mut lists, tally)?;
+        let outcome = side_by_side(Call::Search, &case.query(), &mut lists, tally)?;
         let (distances, parents) = (&lists.words[DISTANCES], &lists.words[PARENTS]);
         demand(!case.wrong(outcome.answer, distances, parents), || {
             format!(
