@@ -7,10 +7,12 @@ mod table;
 use hopbench::calls::plain_search;
 use hopbench::inputs::KINDS;
 use std::process::ExitCode;
+use std::time::Duration;
 
 const USAGE: &str = "usage:
-  hopbench table [REPEATS]
-      the benchmark, as Markdown; 101 repeats
+  hopbench table [REPEATS MICROSECONDS]
+      the benchmark, as Markdown: 15 repeats in turns of 10 ms, then 101 in turns of 200 µs; or
+      REPEATS in turns of MICROSECONDS
   hopbench differential [CASES [SEED [FIRST]]]
       the differential test; 20000 cases, seed 1; with FIRST only those cases from FIRST on
   hopbench one KIND N P SCHEDULE COUNT
@@ -45,8 +47,15 @@ fn one(kind: &str, n: &str, workers: &str, schedule: &str, count: &str) -> Resul
 
 fn run(arguments: &[&str]) -> Result<(), String> {
     match arguments {
-        ["table"] => table::table(101),
-        ["table", repeats] => table::table(number::<usize>(repeats)?.max(1)),
+        ["table"] => {
+            table::table(&table::LONG_TURNS)?;
+            println!();
+            table::table(&table::SHORT_TURNS)
+        }
+        ["table", repeats, micros] => table::table(&table::Turns {
+            shortest: Duration::from_micros(number(micros)?),
+            repeats: number::<usize>(repeats)?.max(1),
+        }),
         ["differential"] => differential::differential(20_000, 1, None),
         ["differential", count] => differential::differential(number(count)?, 1, None),
         ["differential", count, seed] => {

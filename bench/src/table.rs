@@ -13,9 +13,23 @@ use std::time::{Duration, Instant};
 const SIZES: [(usize, usize); 3] = [(64, 512), (512, 4_096), (4_096, 32_768)];
 const WORKERS: [usize; 3] = [1, 2, 8];
 const SEED: u64 = 1;
-/// Long enough for the clock, and short enough that the engines take turns after a call or a few:
-/// what the processor remembers of one's branches is then not its own call before.
-const SHORTEST_BATCH: Duration = Duration::from_micros(200);
+
+/// How the engines take turns: each is called for at least so long before the other's turn comes,
+/// and how often. In a long turn an engine's call follows its own, and the processor may have learnt
+/// the schedule's branches; in a short one, of a call or a few, it follows the other engine's.
+pub struct Turns {
+    pub shortest: Duration,
+    pub repeats: usize,
+}
+
+pub const LONG_TURNS: Turns = Turns {
+    shortest: Duration::from_millis(10),
+    repeats: 15,
+};
+pub const SHORT_TURNS: Turns = Turns {
+    shortest: Duration::from_micros(200),
+    repeats: 101,
+};
 
 /// One row's input.
 pub struct Input {
@@ -132,17 +146,17 @@ fn time(count: usize, mut batch: impl FnMut(usize)) -> f64 {
     start.elapsed().as_nanos() as f64 / count as f64
 }
 
-/// How many calls make a batch long enough.
-fn batch_size(mut batch: impl FnMut(usize)) -> usize {
+/// How many calls make a batch so long.
+fn batch_size(shortest: Duration, mut batch: impl FnMut(usize)) -> usize {
     let mut count = 1;
     loop {
         let start = Instant::now();
         batch(count);
         let took = start.elapsed();
-        if took >= SHORTEST_BATCH {
+        if took >= shortest {
             return count;
         }
-        let times = SHORTEST_BATCH.as_secs_f64() / took.as_secs_f64().max(1e-9);
+        let times = shortest.as_secs_f64() / took.as_secs_f64().max(1e-9);
         count = ((count as f64 * times * 1.1) as usize).clamp(count + 1, 10 * count);
     }
 }
@@ -156,11 +170,13 @@ struct Repeat {
 
 const ENGINES: [Search; 2] = [proved::search, plain_search];
 
-fn measure(input: &Input, repeats: usize) -> Vec<Repeat> {
+fn measure(input: &Input, turns: &Turns) -> Vec<Repeat> {
+    let shortest = turns.shortest;
     let mut lists = input.lists();
     let queries = [input.whole(), input.set_up()];
     let sizes = queries.map(|query| {
-        ENGINES.map(|search| batch_size(|count| repeat(search, &query, &mut lists, count)))
+        ENGINES
+            .map(|search| batch_size(shortest, |count| repeat(search, &query, &mut lists, count)))
     });
     let mut places = vec![0; input.n];
     let mut queued = |lists: &mut Lists, count| {
@@ -168,14 +184,14 @@ fn measure(input: &Input, repeats: usize) -> Vec<Repeat> {
             black_box(queue_search(input, lists, &mut places));
         }
     };
-    let queue_size = batch_size(|count| queued(&mut lists, count));
+    let queue_size = batch_size(shortest, |count| queued(&mut lists, count));
     let one = |query: usize, engine: usize, lists: &mut Lists| {
         let size = sizes[query][engine];
         time(size, |count| {
             repeat(ENGINES[engine], &queries[query], lists, count)
         })
     };
-    (0..repeats)
+    (0..turns.repeats)
         .map(|_| Repeat {
             whole: [0, 1].map(|engine| one(0, engine, &mut lists)),
             set_up: [0, 1].map(|engine| one(1, engine, &mut lists)),
@@ -216,9 +232,9 @@ struct Row {
 }
 
 impl Row {
-    fn new(input: Input, repeats: usize) -> Result<Self, String> {
+    fn new(input: Input, turns: &Turns) -> Result<Self, String> {
         let effective = compare(&input).map_err(|what| format!("{}: {what}", input.name()))?;
-        let repeats = measure(&input, repeats);
+        let repeats = measure(&input, turns);
         Ok(Row {
             input,
             effective,
@@ -307,13 +323,14 @@ fn inputs() -> impl Iterator<Item = Input> {
     })
 }
 
-/// The benchmark with so many repeats. An error says where the engines differ.
-pub fn table(repeats: usize) -> Result<(), String> {
-    println!("{CAPTION} Times are medians of {repeats} repeats; ratios too, with what one in ten is below and above.\n");
+/// The benchmark with such turns. An error says where the engines differ.
+pub fn table(turns: &Turns) -> Result<(), String> {
+    let Turns { shortest, repeats } = turns;
+    println!("Turns of at least {shortest:?}. {CAPTION} Times are medians of {repeats} repeats; ratios too, with what one in ten is below and above.\n");
     print_heading(&HEADINGS.map(String::from));
     let mut rows = Vec::new();
     for input in inputs() {
-        let row = Row::new(input, repeats)?;
+        let row = Row::new(input, turns)?;
         row.print();
         rows.push(row);
     }
