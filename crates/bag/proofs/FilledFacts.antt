@@ -1,11 +1,12 @@
 -- Filled slots: whether there are any from slot k on, which of them is the first, and what the bag is then.
-use Prim.Native.Nat.{ℕ, zero, suc, _+_, _≤_, _<_}
+use Prim.Native.Nat.{ℕ, zero, suc, _+_, _-_, _≤_, _<_}
 use native.Mathlib.Omega.{arith}
 use native.Mathlib.Nat.{zero-add}
 use native.Mathlib.Numerals.{add-one}
 use mathlib.Core.Path.{_≡_, refl, sym, ap, _∙_}
 use mathlib.Core.Bool.{Bool, true, false, not, _&&_, and-true, and-false, true≢false}
 use mathlib.Core.List.{List, [], _∷_}
+use mathlib.Core.Logic.{_⊎_, inl, inr, ⊎-elim}
 use lib.ListN.{length, getD, drop, drop-of-length-le}
 use lib.Seq.{drop-cons}
 use Rattle.pennant.specs.Pennant.{Slot, gap, tip}
@@ -126,3 +127,79 @@ module _ (left right : List ℕ) where
   -- take goes by the first filled slot
   pub lowest-found : (slots : List ℕ) {r : ℕ} → r ≡ firstFilled 0 slots → isEmpty (nodesOf left right slots) ≡ false → Lowest slots 0 r
   lowest-found slots e f = rw e (lowest-from slots (length slots) 0 (zero-add (length slots)) f)
+
+-- Slots past slot 0, looked at in two rows: 1, 2, .. and 8, 9, ..
+
+-- one side or the other
+side : (i k : ℕ) → (i ≤ k) ⊎ (k < i)
+side zero k = inl (omega arith)
+side (suc i) zero = inr (omega arith)
+side (suc i) (suc k) = ⊎-elim (λ le. inl (omega arith)) (λ lt. inr (omega arith)) (side i k)
+
+module _ (slots : List ℕ) where
+  -- two are held where a filled slot was met, else the first so many slots of either row are empty
+  pub record Seeking (two : Bool) (first second : ℕ) : Type 0 where
+    pub found : two ≡ true → (left right : List ℕ) → isEmpty (drop 1 (nodesOf left right slots)) ≡ false
+    pub passed-first : two ≡ false → (j : ℕ) → j < first → getD slots (j + 1) 0 ≡ 0
+    pub passed-second : two ≡ false → (j : ℕ) → j < second → getD slots (j + 8) 0 ≡ 0
+
+  -- something is held from slot k on where a slot there is filled
+  some-from : (left right : List ℕ) (n k j : ℕ) → k + n ≡ j → j < length slots → (getD slots j 0 ≡ 0 → ⊥)
+      → isEmpty (drop k (nodesOf left right slots)) ≡ false
+  some-from left right zero k j e within filled =
+      none-filled left right slots k (omega arith) true (λ z. filled (ap (λ (i : ℕ). getD slots i 0) (omega arith) ∙ z))
+  some-from left right (suc n) k j e within filled = go (some-from left right n (k + 1) j (omega arith) within filled) (getD slots k 0) refl
+    where
+      go : isEmpty (drop (k + 1) (nodesOf left right slots)) ≡ false → (x : ℕ) → getD slots k 0 ≡ x → isEmpty (drop k (nodesOf left right slots)) ≡ false
+      go later zero q = none-pass left right slots k (omega arith) true q ∙ later
+      go later (suc x) q = none-filled left right slots k (omega arith) true (λ z. omega arith)
+
+  -- nothing is where all of them are empty
+  none-from : (left right : List ℕ) (n k : ℕ) → k + n ≡ length slots → ((j : ℕ) → k ≤ j → j < length slots → getD slots j 0 ≡ 0)
+      → isEmpty (drop k (nodesOf left right slots)) ≡ true
+  none-from left right zero k e empty = nodes-end left right slots k (omega arith)
+  none-from left right (suc n) k e empty =
+      none-pass left right slots k (omega arith) true (empty k (omega arith) (omega arith))
+      ∙ none-from left right n (k + 1) (omega arith) (λ j a b. empty j (omega arith) b)
+
+  -- before the first
+  pub seeking-start : Seeking false 0 0
+  seeking-start = record { found = λ e. absurd (true≢false (sym e)); passed-first = λ e j h. absurd (omega arith); passed-second = λ e j h. absurd (omega arith) }
+
+  -- a filled slot past slot 0
+  pub seeking-found : {first second : ℕ} (j : ℕ) → 1 ≤ j → j < length slots → (getD slots j 0 ≡ 0 → ⊥) → Seeking true first second
+  seeking-found j past within filled = record {
+    found = λ e left right. some-from left right (j - 1) 1 j (omega arith) within filled;
+    passed-first = λ e. absurd (true≢false e);
+    passed-second = λ e. absurd (true≢false e);
+  }
+
+  module _ {two : Bool} {first second : ℕ} (so-far : Seeking two first second) where
+    -- the next one of the first row is empty
+    pub seeking-first : getD slots (first + 1) 0 ≡ 0 → Seeking two (first + 1) second
+    seeking-first empty = record {
+      found = so-far .found;
+      passed-first = λ e j h. ⊎-elim (λ last. ap (λ (i : ℕ). getD slots (i + 1) 0) (omega arith) ∙ empty) (λ below. so-far .passed-first e j below) (side first j);
+      passed-second = so-far .passed-second;
+    }
+
+    -- of the second
+    pub seeking-second : getD slots (second + 8) 0 ≡ 0 → Seeking two first (second + 1)
+    seeking-second empty = record {
+      found = so-far .found;
+      passed-first = so-far .passed-first;
+      passed-second = λ e j h. ⊎-elim (λ last. ap (λ (i : ℕ). getD slots (i + 8) 0) (omega arith) ∙ empty) (λ below. so-far .passed-second e j below) (side second j);
+    }
+
+  -- at the end of both rows all slots are looked at
+  pub seeking-done : (two : Bool) (k : ℕ) → length slots ≡ 16 → 8 ≤ k → Seeking two k k → (left right : List ℕ) → two ≡ atLeastTwo (nodesOf left right slots)
+  seeking-done true k long all so-far left right = sym (ap not (so-far .found refl left right)) ∙ two-past (nodesOf left right slots)
+  seeking-done false k long all so-far left right =
+      sym (ap not (none-from left right 15 1 (omega arith) (λ j past within. ⊎-elim (low j past) (high j within) (side j 8))))
+      ∙ two-past (nodesOf left right slots)
+    where
+      low : (j : ℕ) → 1 ≤ j → j ≤ 8 → getD slots j 0 ≡ 0
+      low j past below = ap (λ (i : ℕ). getD slots i 0) (omega arith) ∙ so-far .passed-first refl (j - 1) (omega arith)
+
+      high : (j : ℕ) → j < length slots → 8 < j → getD slots j 0 ≡ 0
+      high j within past = ap (λ (i : ℕ). getD slots i 0) (omega arith) ∙ so-far .passed-second refl (j - 8) (omega (arith, long))

@@ -5,7 +5,6 @@
 ghost use mathlib.Core.Path.{_≡_};
 ghost use Prim.Native.Nat.{ℕ};
 ghost use mathlib.Core.List.{List};
-ghost use lib.ListN.{drop};
 ghost use Rattle.pennant.specs.Bag.{isEmpty, atLeastTwo};
 ghost use Rattle.bag.specs.Nodes.{nodesOf, emptySlots};
 
@@ -15,8 +14,10 @@ mod operations;
 mod store;
 
 pub use operations::insert;
+pub use operations::insert_into;
 pub use operations::split;
 pub use operations::take;
+pub use operations::take_from;
 pub use operations::union;
 pub use store::pool;
 pub use store::sweep;
@@ -45,14 +46,13 @@ pub fn empty() -> Bag
     Bag { slots: [0u16; 16] }
 }
 
-// Whether no slot from `from` on is filled. The loop has no exit, so that all slots are looked at
-// at once.
-fn none_from(bag: Bag, from: usize) -> bool
-    ensures { λ r. ⌜ ((left right : List ℕ) → r ≡ isEmpty (drop from (nodesOf left right (bag .slots)))) ⌝ }
+// Whether the bag is empty. The loop has no exit, so that all slots are looked at at once.
+pub fn is_empty(bag: Bag) -> bool
+    ensures { λ r. ⌜ ((left right : List ℕ) → r ≡ isEmpty (nodesOf left right (bag .slots))) ⌝ }
 {
     let slots = bag.slots;
     let mut none = true;
-    let mut k = from;
+    let mut k = 0;
     while k < 16 {
         if slots[k] != 0 {
             none = false;
@@ -62,16 +62,22 @@ fn none_from(bag: Bag, from: usize) -> bool
     none
 }
 
-// Whether the bag is empty.
-pub fn is_empty(bag: Bag) -> bool
-    ensures { λ r. ⌜ ((left right : List ℕ) → r ≡ isEmpty (nodesOf left right (bag .slots))) ⌝ }
-{
-    none_from(bag, 0)
-}
-
-// Whether the bag holds at least two numbers.
+// Whether the bag holds at least two numbers: a slot past slot 0 is filled. Two rows of eight slots,
+// 1 to 8 and 8 to 15, are looked at at once.
 pub fn at_least_two(bag: Bag) -> bool
     ensures { λ r. ⌜ ((left right : List ℕ) → r ≡ atLeastTwo (nodesOf left right (bag .slots))) ⌝ }
 {
-    !none_from(bag, 1)
+    let slots = bag.slots;
+    let mut two = false;
+    let mut k = 0;
+    while k < 8 {
+        if slots[k + 1] != 0 {
+            two = true;
+        }
+        if slots[k + 8] != 0 {
+            two = true;
+        }
+        k += 1;
+    }
+    two
 }

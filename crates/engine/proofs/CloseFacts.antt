@@ -11,7 +11,6 @@ use Rattle.numbers.specs.Numbers.{success, unfinished}
 use Rattle.lists.proofs.Replaced.{map-replicate}
 use Rattle.pennant.specs.Bag.{Bag, emptyBag, isEmpty}
 use Rattle.bag.specs.Nodes.{nodesOf, heldBy}
-use Rattle.bag.specs.declared.Bag as bag
 use Rattle.bag.specs.Promises.{Moved}
 use Rattle.bag.proofs.Family.{same-moved, moved-again}
 use Rattle.bag.proofs.HeldFacts.{held-empty, held-none}
@@ -73,11 +72,11 @@ module _ {source P : ℕ} {schedule offsets targets distances parents left right
     close-unmet busy = unmet-on turn (ap (λ (met : Bool). cond met (some (closed (now-state at) (unitedOutputs ((now-state at) .workers)))) none) busy)
 
     -- all workers are idle
-    module _ (idle : allIdle (workersOf offsets left right number (take P crew)) ≡ true) {left′ right′ : List ℕ} {b : bag.Bag}
-        (gathered : Gathered (take P crew) left right left′ right′ (b .slots)) where
+    module _ (idle : allIdle (workersOf offsets left right number (take P crew)) ≡ true) {left′ right′ : List ℕ} {b : List ℕ}
+        (gathered : Gathered (take P crew) left right left′ right′ b) where
       -- what they have gathered
       abbrev united : Bag
-      united = heldBy left′ right′ number (b .slots)
+      united = heldBy left′ right′ number b
 
       -- the table has the closed state
       close-act : act (graph at) (now-state at) Close ≡ some (closed (now-state at) united)
@@ -87,13 +86,13 @@ module _ {source P : ℕ} {schedule offsets targets distances parents left right
           ∙ ap (λ (x : Bag). some (closed (now-state at) x)) (sym (gathered .united offsets number))
 
       -- by whether the united bag is empty
-      close-as : {f : Bool} → isEmpty (nodesOf left′ right′ (b .slots)) ≡ f
+      close-as : {f : Bool} → isEmpty (nodesOf left′ right′ b) ≡ f
           → closed (now-state at) united ≡ cond f (endedState (now-state at)) (raisedState (now-state at) united)
       unfolding closed
-      close-as h = ap (λ (f : Bool). cond f (endedState (now-state at)) (raisedState (now-state at) united)) (held-empty left′ right′ number (b .slots) ∙ h)
+      close-as h = ap (λ (f : Bool). cond f (endedState (now-state at)) (raisedState (now-state at) united)) (held-empty left′ right′ number b ∙ h)
 
       -- it is not: the layer grows by 1
-      module _ (inputs : NoInputs (take P crew)) (filled : isEmpty (nodesOf left′ right′ (b .slots)) ≡ false) where
+      module _ (inputs : NoInputs (take P crew)) (filled : isEmpty (nodesOf left′ right′ b) ≡ false) where
         -- every worker has handed in its bag and is idle
         each-idle : map handedIn (workersOf offsets left right number (take P crew)) ≡ replicate P model.idleWorker
         unfolding workerOf stateOf
@@ -134,7 +133,7 @@ module _ {source P : ℕ} {schedule offsets targets distances parents left right
             (close-act ∙ ap some raised-after))
 
       -- it is: the search is finished
-      module _ (none-left : isEmpty (nodesOf left′ right′ (b .slots)) ≡ true) where
+      module _ (none-left : isEmpty (nodesOf left′ right′ b) ≡ true) where
         -- and the rest of the schedule isn't used
         ended-run : play (graph at) source P schedule ≡ record { state = endedState (now-state at); used = used + 1; effective = effective + 1 }
         unfolding play

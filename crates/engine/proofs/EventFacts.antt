@@ -1,36 +1,31 @@
 -- Each event of a run on the three lists: what its steps take for granted holds, and after it the engine is where the model is and the count of
--- workers that are not idle is right.
+-- workers that hold a vertex is right.
 use mathlib.Core.Path.{_≡_, refl, sym, ap, ap₂, subst, _∙_}
-use mathlib.Core.Bool.{Bool, true, false, not, _&&_, true≢false}
+use mathlib.Core.Bool.{true, false, not, _&&_}
 use mathlib.Core.Logic.{_⊎_}
-use mathlib.Core.List.{List, [], _∷_, map}
+use mathlib.Core.List.{List, [], _∷_}
 use Prim.Native.Nat.{ℕ, _+_, _-_, _≤_, _<_}
 use native.Mathlib.Omega.{arith}
 use lib.ListN.{length, getD, set, take}
-use borrow.Author.Tests.{leb-true}
 use Rattle.numbers.specs.Numbers.{maxWorkers, success}
-use Rattle.lists.specs.Lists.{sumOf}
-use Rattle.pennant.specs.Bag.{Bag, isEmpty, atLeastTwo}
-use Rattle.pennant.specs.Held.{copies, size, Shaped}
-use Rattle.pennant.proofs.Laws.{sized-filled, two-size, split-filled}
+use Rattle.pennant.specs.Bag.{slotCount, isEmpty, atLeastTwo}
+use Rattle.pennant.specs.Held.{copies}
 use Rattle.graph.specs.Graph.{rowsOf}
 use Rattle.graph.specs.Steps.{GraphRows}
-use Rattle.bag.specs.Nodes.{nodesOf, heldBy}
+use Rattle.bag.specs.Nodes.{nodesOf, heldBy, emptySlots}
 use Rattle.bag.specs.Promises.{Pooled, SplitInto, United}
-use Rattle.bag.specs.declared.Bag as bag
-use Rattle.bag.proofs.Kept.{nodes-shaped}
 use Rattle.schedule.specs.declared.Event.the-variants.{Work, Split, Unite, Close, Malformed}
 use Rattle.model.specs.Table.{allIdle}
 use Rattle.model.specs.Play.{play}
 use Rattle.workers.specs.declared.Phase.{Phase}
 use Rattle.workers.specs.declared.Phase.the-variants.{Free, Holding, InHand, Marked, Named}
-use Rattle.workers.specs.Shown.{Worker, workerFrom, workerOf, workersOf, crewOf, bagsOf, slotsOf}
-use Rattle.workers.specs.Steps.{EdgeOf, Fits, Between, Advanced, Stocked, TookFrom, StowedInto, Workable, Worked, splitPair, unitePair, Exchanged, withInput}
-use Rattle.workers.specs.Steps.{withOutput, NoInputs, Gatherable, Gathered, GatheredBags, activityOf, emptyBagOf, allFree, openedCrew}
+use Rattle.workers.specs.Shown.{Worker, workerFrom, workerOf, workersOf, crewOf, bagsOf}
+use Rattle.workers.specs.Steps.{EdgeOf, Fits, Between, Advanced, Stocked, TookFrom, StowedInto, Workable, Worked, splitPair, unitePair, withInput}
+use Rattle.workers.specs.Steps.{withOutput, NoInputs, Gatherable, Gathered, GatheredBags, heldOf, activityOf, allFree}
 use Rattle.workers.proofs.CrewFacts.{pastCrew}
 use Rattle.workers.proofs.PartsFacts.{Even, partsAt, pastBag, crew-long, crew-begun, crew-stowed, crew-advanced, crew-input, crew-output, crew-outputs}
-use Rattle.workers.proofs.PartsFacts.{even-begun, even-stowed, even-advanced, even-input, even-output, firstOfEight, opened-as}
-use Rattle.workers.proofs.IdleFacts.{filled-active, held-active, idle-some}
+use Rattle.workers.proofs.PartsFacts.{even-begun, even-stowed, even-advanced, even-input, even-output, firstOfEight, opened-as, full-set}
+use Rattle.workers.proofs.IdleFacts.{held-one, idle-some}
 use Rattle.workers.proofs.RowFacts.{edge-small, fits-as}
 use Rattle.workers.proofs.MoveFacts.{input-pooled, output-pooled, between-others, work-input, work-begun, work-stowed, work-advanced}
 use Rattle.workers.proofs.ExchangeFacts.{split-made, split-unmet, unite-made, unite-unmet}
@@ -42,10 +37,10 @@ use Rattle.engine.proofs.PlayingFacts.{SameLengths, Playing, Turn, laye
 use Rattle.engine.proofs.WorkFacts.{work-able, work-on, idle-on}
 use Rattle.engine.proofs.PairFacts.{splitting, uniting, pair-pool, pair-unmet, pair-on}
 use Rattle.engine.proofs.CloseFacts.{gather-able, close-unmet, raised-on, ended-ran}
-use Rattle.engine.proofs.BusyFacts.{Manned, worker-parts, busy-some, manned-one, two-sum, activity-output, manned-opened}
+use Rattle.engine.proofs.BusyFacts.{Manned, worker-parts, busy-some, manned-one, manned-more, manned-two, manned-opened}
 
 -- the engine's values before a byte: those of the model's run, and the count
-pub record Going (source P : ℕ) (schedule offsets targets distances parents left right number : List ℕ) (inputs outputs : List bag.Bag)
+pub record Going (source P : ℕ) (schedule offsets targets distances parents left right number : List ℕ) (inputs outputs : List (List ℕ))
     (phases : List Phase) (busy used effective layer : ℕ) : Type 0 where
   pub playing : Playing source P schedule offsets targets distances parents left right number (crewOf inputs outputs phases) used effective layer
   pub manned : Manned P busy inputs outputs phases
@@ -58,16 +53,7 @@ Held (InHand u e f t) = Unit {0}
 Held (Marked u e f t) = Unit {0}
 Held (Named u e f t) = Unit {0}
 
--- both hold, so the second does
-and-right : (a b : Bool) → (a && b) ≡ true → b ≡ true
-and-right true b e = e
-and-right false b e = absurd (true≢false (sym e))
-
--- a bag that holds two isn't empty
-two-filled : (s : Bag) → Shaped s → atLeastTwo s ≡ true → isEmpty s ≡ false
-two-filled s shaped two = sized-filled s (omega (arith, leb-true 2 (size s) (sym (two-size s shaped) ∙ two)))
-
-module _ {P busy : ℕ} {inputs outputs : List bag.Bag} {phases : List Phase} (manned : Manned P busy inputs outputs phases) where
+module _ {P busy : ℕ} {inputs outputs : List (List ℕ)} {phases : List Phase} (manned : Manned P busy inputs outputs phases) where
   -- the workers
   abbrev crew : List Worker
   crew = crewOf inputs outputs phases
@@ -107,63 +93,60 @@ module _ {P busy : ℕ} {inputs outputs : List bag.Bag} {phases : List Phase} (m
         lengths
 
     -- what `begin` takes for granted
-    pub begin-able : isEmpty (nodesOf left right (getD inputs w pastBag .slots)) ≡ false
-        → Pooled left right (getD inputs w pastBag .slots ∷ [])
+    pub begin-able : isEmpty (nodesOf left right (getD inputs w pastBag)) ≡ false
+        → Pooled left right (getD inputs w pastBag ∷ [])
         × ((length left ≤ length number)
-        × ((isEmpty (nodesOf left right (getD inputs w pastBag .slots)) ≡ false)
-        × ((v : ℕ) → 1 ≤ copies v (heldBy left right number (getD inputs w pastBag .slots)) → v + 1 < length offsets)))
-    begin-able filled = (input-pooled worker left right number (able .stocked), (able .stocked .numbered, (filled, work-input able)))
+        × ((isEmpty (nodesOf left right (getD inputs w pastBag)) ≡ false)
+        × (((v : ℕ) → 1 ≤ copies v (heldBy left right number (getD inputs w pastBag)) → v + 1 < length offsets)
+        × (length (getD inputs w pastBag) ≡ slotCount))))
+    begin-able filled = (
+      input-pooled worker left right number (able .stocked),
+      (able .stocked .numbered, (filled, (work-input able, manned .inputs-full .slots w (omega (arith, few, staffed turn))))),
+    )
 
     -- a free worker with nothing in its bag stays as it is
-    pub rest-on : getD phases w Free ≡ Free → isEmpty (nodesOf left right (getD inputs w pastBag .slots)) ≡ true
+    pub rest-on : getD phases w Free ≡ Free → isEmpty (nodesOf left right (getD inputs w pastBag)) ≡ true
         → Going source P schedule offsets targets distances parents left right number inputs outputs phases busy (used + 1) effective layer
     rest-on free empty = record {
       playing = idle-on turn pastCrew (ap (λ (x : Worker). x .phase) is-worker ∙ free)
-          (ap (λ (x : Worker). isEmpty (nodesOf left right (x .input .slots))) is-worker ∙ empty);
+          (ap (λ (x : Worker). isEmpty (nodesOf left right (x .input))) is-worker ∙ empty);
       manned = manned;
     }
 
     -- one that has something takes it
-    module _ (filled : isEmpty (nodesOf left right (getD inputs w pastBag .slots)) ≡ false) where
-      -- it counts
-      filled-one : activityOf worker ≡ 1
-      filled-one = filled-active left right worker filled
-
-      pub filled-some : 1 ≤ busy
-      filled-some = busy-some few manned w (staffed turn) filled-one
-
-      pub begun-on : getD phases w Free ≡ Free → {left′ : List ℕ} {rest : bag.Bag} {next : Phase} {a : ℕ}
-          → ((output : bag.Bag) → Stocked (workerFrom (getD inputs w pastBag) output Free) left right number
-          → TookFrom (workerFrom (getD inputs w pastBag) output Free) offsets left right number left′ (workerFrom rest output next))
-          → SameLengths distances parents left right number distances parents left′ right number
-          → ((output : bag.Bag) → a ≡ activityOf (workerFrom rest output next))
-          → Going source P schedule offsets targets distances parents left′ right number (set inputs w rest) outputs (set phases w next) (busy + a - 1)
-          (used + 1) (effective + 1) layer
-      begun-on free {left′} {rest} {next} {a} took lengths active = record {
-        playing = subst
-            (λ (l : List Worker). Playing source P schedule offsets targets distances parents left′ right number l (used + 1) (effective + 1) layer)
-            (sym (crew-begun even w rest next)) (moved-on (work-begun able as-taken) lengths);
-        manned = manned-one few manned (even-begun even w rest next) w (workerFrom rest (getD outputs w pastBag) next) (staffed turn)
-            (crew-begun even w rest next) (active (getD outputs w pastBag)) (sym filled-one);
-      }
-        where
-          as-taken : TookFrom worker offsets left right number left′ (workerFrom rest (getD outputs w pastBag) next)
-          as-taken =
-              subst
-              (λ (p : Phase).
-              TookFrom (workerFrom (getD inputs w pastBag) (getD outputs w pastBag) p) offsets left right number left′
-              (workerFrom rest (getD outputs w pastBag) next))
-              (sym free)
-              (took (getD outputs w pastBag)
-              (subst (λ (p : Phase). Stocked (workerFrom (getD inputs w pastBag) (getD outputs w pastBag) p) left right number) free (able .stocked)))
+    pub begun-on : getD phases w Free ≡ Free → {left′ : List ℕ} {rest : List ℕ} {next : Phase} {a : ℕ}
+        → ((output : List ℕ) → Stocked (workerFrom (getD inputs w pastBag) output Free) left right number
+        → TookFrom (workerFrom (getD inputs w pastBag) output Free) offsets left right number left′ (workerFrom rest output next))
+        → length rest ≡ slotCount
+        → SameLengths distances parents left right number distances parents left′ right number → a ≡ heldOf next
+        → Going source P schedule offsets targets distances parents left′ right number (set inputs w rest) outputs (set phases w next) (busy + a)
+        (used + 1) (effective + 1) layer
+    unfolding heldOf
+    begun-on free {left′} {rest} {next} {a} took long lengths active = record {
+      playing = subst
+          (λ (l : List Worker). Playing source P schedule offsets targets distances parents left′ right number l (used + 1) (effective + 1) layer)
+          (sym (crew-begun even w rest next)) (moved-on (work-begun able as-taken) lengths);
+      manned = manned-more few manned (even-begun even w rest next) w (workerFrom rest (getD outputs w pastBag) next) (staffed turn)
+          (crew-begun even w rest next) active refl (ap heldOf free) (full-set (manned .inputs-full) w rest long) (manned .outputs-full);
+    }
+      where
+        as-taken : TookFrom worker offsets left right number left′ (workerFrom rest (getD outputs w pastBag) next)
+        as-taken =
+            subst
+            (λ (p : Phase).
+            TookFrom (workerFrom (getD inputs w pastBag) (getD outputs w pastBag) p) offsets left right number left′
+            (workerFrom rest (getD outputs w pastBag) next))
+            (sym free)
+            (took (getD outputs w pastBag)
+            (subst (λ (p : Phase). Stocked (workerFrom (getD inputs w pastBag) (getD outputs w pastBag) p) left right number) free (able .stocked)))
 
     -- a worker that isn't free counts
     module _ (held : getD phases w Free ≡ Free → ⊥) where
-      held-one : activityOf worker ≡ 1
-      held-one = held-active worker held
+      counts-one : activityOf worker ≡ 1
+      counts-one = held-one (getD phases w Free) held
 
       pub held-some : 1 ≤ busy
-      held-some = busy-some few manned w (staffed turn) held-one
+      held-some = busy-some few manned w (staffed turn) counts-one
 
     -- one that has named its target
     module _ {u e f t : ℕ} (named : getD phases w Free ≡ Named u e f t) where
@@ -177,26 +160,30 @@ module _ {P busy : ℕ} {inputs outputs : List bag.Bag} {phases : List Phase} (m
 
       -- what `stow` takes for granted
       pub stow-able : (e + 1 < 65536)
-          × (Pooled left right (getD outputs w pastBag .slots ∷ []) × ((length left ≤ length number) × (getD left 0 0 ≡ 0 → ⊥)))
+          × (Pooled left right (getD outputs w pastBag ∷ [])
+          × ((length left ≤ length number) × ((getD left 0 0 ≡ 0 → ⊥) × (length (getD outputs w pastBag) ≡ slotCount))))
       stow-able = (
         edge-small (able .rows) named-edge .edge-small,
-        (output-pooled worker left right number (able .stocked), (able .stocked .numbered, able .room u e f t named)),
+        (
+          output-pooled worker left right number (able .stocked),
+          (able .stocked .numbered, (able .room u e f t named, manned .outputs-full .slots w (omega (arith, few, staffed turn)))),
+        ),
       )
 
-      pub stowed-on : {left′ right′ number′ : List ℕ} {more : bag.Bag} {next : Phase} {a : ℕ}
-          → ((input : bag.Bag) (offsets : List ℕ) → f ≡ getD offsets (u + 1) 0
+      pub stowed-on : {left′ right′ number′ : List ℕ} {more : List ℕ} {next : Phase} {a : ℕ}
+          → ((input : List ℕ) (offsets : List ℕ) → f ≡ getD offsets (u + 1) 0
           → Stocked (workerFrom input (getD outputs w pastBag) (Named u e f t)) left right number
           → StowedInto (workerFrom input (getD outputs w pastBag) (Named u e f t)) offsets left right number left′ right′ number′ (workerFrom input more next))
-          → SameLengths distances parents left right number distances parents left′ right′ number′
-          → ((output : bag.Bag) → a ≡ activityOf (workerFrom (getD inputs w pastBag) output next))
+          → length more ≡ slotCount
+          → SameLengths distances parents left right number distances parents left′ right′ number′ → a ≡ heldOf next
           → Going source P schedule offsets targets distances parents left′ right′ number′ inputs (set outputs w more) (set phases w next) (busy + a - 1)
           (used + 1) (effective + 1) layer
-      stowed-on {left′} {right′} {number′} {more} {next} {a} put lengths active = record {
+      stowed-on {left′} {right′} {number′} {more} {next} {a} put long lengths active = record {
         playing = subst
             (λ (l : List Worker). Playing source P schedule offsets targets distances parents left′ right′ number′ l (used + 1) (effective + 1) layer)
             (sym (crew-stowed even w more next)) (moved-on (work-stowed able as-stowed) lengths);
         manned = manned-one few manned (even-stowed even w more next) w (workerFrom (getD inputs w pastBag) more next) (staffed turn)
-            (crew-stowed even w more next) (active more) (sym (held-one named-held));
+            (crew-stowed even w more next) active (sym (counts-one named-held)) (manned .inputs-full) (full-set (manned .outputs-full) w more long);
       }
         where
           as-stowed : StowedInto worker offsets left right number left′ right′ number′ (workerFrom (getD inputs w pastBag) more next)
@@ -231,8 +218,7 @@ module _ {P busy : ℕ} {inputs outputs : List bag.Bag} {phases : List Phase} (m
           → ((offsets : List ℕ) → GraphRows offsets targets (length distances) → layer < length distances
           → Fits offsets (length distances) (getD phases w Free)
           → Advanced (getD phases w Free) layer offsets targets distances parents distances′ parents′ next)
-          → SameLengths distances parents left right number distances′ parents′ left right number
-          → ((output : bag.Bag) → a ≡ activityOf (workerFrom (getD inputs w pastBag) output next))
+          → SameLengths distances parents left right number distances′ parents′ left right number → a ≡ heldOf next
           → Going source P schedule offsets targets distances′ parents′ left right number inputs outputs (set phases w next) (busy + a - 1) (used + 1)
           (effective + 1) layer
       advanced-on {distances′} {parents′} {next} {a} moved lengths active = record {
@@ -241,7 +227,7 @@ module _ {P busy : ℕ} {inputs outputs : List bag.Bag} {phases : List Phase} (m
             (sym (crew-advanced even w next))
             (moved-on (work-advanced able (moved offsets (able .rows) (able .layer-below) (able .phase-fits))) lengths);
         manned = manned-one few manned (even-advanced even w next) w (workerFrom (getD inputs w pastBag) (getD outputs w pastBag) next) (staffed turn)
-            (crew-advanced even w next) (active (getD outputs w pastBag)) (sym (held-one between-held));
+            (crew-advanced even w next) active (sym (counts-one between-held)) (manned .inputs-full) (manned .outputs-full);
       }
 
   -- Split.
@@ -271,11 +257,11 @@ module _ {P busy : ℕ} {inputs outputs : List bag.Bag} {phases : List Phase} (m
     both-pooled = rw (is-taker, is-giver) at (pair-pool (splitting turn) pastCrew)
 
     -- what the split takes for granted
-    pub split-able : Pooled left right (getD inputs v pastBag .slots ∷ [])
+    pub split-able : Pooled left right (getD inputs v pastBag ∷ [])
     split-able = split-pool taker giver both-pooled
 
     -- the condition isn't met
-    pub split-unmet-on : (isEmpty (nodesOf left right (getD inputs w pastBag .slots)) && atLeastTwo (nodesOf left right (getD inputs v pastBag .slots))) ≡ false
+    pub split-unmet-on : (isEmpty (nodesOf left right (getD inputs w pastBag)) && atLeastTwo (nodesOf left right (getD inputs v pastBag))) ≡ false
         → Going source P schedule offsets targets distances parents left right number inputs outputs phases busy (used + 1) effective layer
     split-unmet-on unmet = record {
       playing = pair-unmet (splitting turn) pastCrew
@@ -285,21 +271,11 @@ module _ {P busy : ℕ} {inputs outputs : List bag.Bag} {phases : List Phase} (m
     }
 
     -- it is
-    module _ (met : (isEmpty (nodesOf left right (getD inputs w pastBag .slots)) && atLeastTwo (nodesOf left right (getD inputs v pastBag .slots))) ≡ true)
-        {left′ right′ : List ℕ} {kept given : bag.Bag}
-        (made : SplitInto left right (getD inputs v pastBag .slots) left′ right′ (kept .slots) (given .slots)) where
-      -- the giver's bag had two
-      two : atLeastTwo (nodesOf left right (getD inputs v pastBag .slots)) ≡ true
-      two = and-right (isEmpty (nodesOf left right (getD inputs w pastBag .slots))) (atLeastTwo (nodesOf left right (getD inputs v pastBag .slots))) met
-
-      -- so neither half is empty
-      halves : (isEmpty (nodesOf left′ right′ (kept .slots)) ≡ false) × (isEmpty (nodesOf left′ right′ (given .slots)) ≡ false)
-      halves =
-          let filled = split-filled (nodesOf left right (getD inputs v pastBag .slots)) (nodes-shaped left right (getD inputs v pastBag .slots)) two in
-          (ap isEmpty (made .nodes-first) ∙ filled .0, ap isEmpty (made .nodes-second) ∙ filled .1)
-
+    module _ (met : (isEmpty (nodesOf left right (getD inputs w pastBag)) && atLeastTwo (nodesOf left right (getD inputs v pastBag))) ≡ true)
+        {left′ right′ : List ℕ} {kept given : List ℕ}
+        (made : SplitInto left right (getD inputs v pastBag) left′ right′ kept given) where
       -- the lists then
-      abbrev inputs′ : List bag.Bag
+      abbrev inputs′ : List (List ℕ)
       inputs′ = set (set inputs v kept) w given
 
       after-crew : crewOf inputs′ outputs phases ≡ set (set crew v (withInput giver kept)) w (withInput taker given)
@@ -315,21 +291,15 @@ module _ {P busy : ℕ} {inputs outputs : List bag.Bag} {phases : List Phase} (m
           (pair-on (splitting turn) pastCrew
           (rw (is-taker, is-giver) (split-made taker giver left right left′ right′ kept given both-pooled met made)) lengths)
 
-      -- and the taker counts if it didn't
-      pub split-on : {was : ℕ} → ((output : bag.Bag) → was ≡ activityOf (workerFrom (getD inputs w pastBag) output (getD phases w Free)))
+      -- and as many count
+      pub split-on : length kept ≡ slotCount → length given ≡ slotCount
           → SameLengths distances parents left right number distances parents left′ right′ number
-          → Going source P schedule offsets targets distances parents left′ right′ number inputs′ outputs phases (busy + 1 - was) (used + 1)
-          (effective + 1) layer
-      split-on {was} before lengths =
-          let counted = two-sum few-here manned (even-input (even-input even v kept) w given) w v (withInput taker given) (withInput giver kept) (staffed turn)
-          after-crew {a = 2} {b = was + 1}
-          (sym (ap₂ _+_ (filled-active left′ right′ (withInput taker given) (halves .1)) (filled-active left′ right′ (withInput giver kept) (halves .0))))
-          (ap₂ _+_ (before (getD outputs w pastBag)) (sym (filled-active left right giver giver-filled))) in
-          record { playing = split-playing lengths; manned = record { even = even-input (even-input even v kept) w given; counted = omega (arith, counted) } }
-        where
-          giver-filled : isEmpty (nodesOf left right (giver .input .slots)) ≡ false
-          giver-filled =
-              two-filled (nodesOf left right (getD inputs v pastBag .slots)) (nodes-shaped left right (getD inputs v pastBag .slots)) two
+          → Going source P schedule offsets targets distances parents left′ right′ number inputs′ outputs phases busy (used + 1) (effective + 1) layer
+      split-on kept-long given-long lengths = record {
+        playing = split-playing lengths;
+        manned = manned-two few-here manned (even-input (even-input even v kept) w given) w v (withInput taker given) (withInput giver kept) (staffed turn)
+            after-crew refl refl refl (full-set (full-set (manned .inputs-full) v kept kept-long) w given given-long) (manned .outputs-full);
+      }
 
   -- Unite.
 
@@ -358,11 +328,11 @@ module _ {P busy : ℕ} {inputs outputs : List bag.Bag} {phases : List Phase} (m
     all-pooled = rw (is-from, is-into) at (pair-pool (uniting turn) pastCrew)
 
     -- what the union takes for granted
-    pub unite-able : Pooled left right (getD outputs v pastBag .slots ∷ getD outputs w pastBag .slots ∷ [])
+    pub unite-able : Pooled left right (getD outputs v pastBag ∷ getD outputs w pastBag ∷ [])
     unite-able = unite-pool from into all-pooled
 
     -- the condition isn't met
-    pub unite-unmet-on : (not (isEmpty (nodesOf left right (getD outputs w pastBag .slots))) && not (isEmpty (nodesOf left right (getD outputs v pastBag .slots)))) ≡ false
+    pub unite-unmet-on : (not (isEmpty (nodesOf left right (getD outputs w pastBag))) && not (isEmpty (nodesOf left right (getD outputs v pastBag)))) ≡ false
         → Going source P schedule offsets targets distances parents left right number inputs outputs phases busy (used + 1) effective layer
     unite-unmet-on unmet = record {
       playing = pair-unmet (uniting turn) pastCrew
@@ -372,50 +342,41 @@ module _ {P busy : ℕ} {inputs outputs : List bag.Bag} {phases : List Phase} (m
     }
 
     -- it is
-    module _ (met : (not (isEmpty (nodesOf left right (getD outputs w pastBag .slots))) && not (isEmpty (nodesOf left right (getD outputs v pastBag .slots)))) ≡ true)
-        {left′ right′ : List ℕ} {united : bag.Bag}
-        (made : United left right (getD outputs v pastBag .slots) (getD outputs w pastBag .slots) left′ right′ (united .slots)) where
+    module _ (met : (not (isEmpty (nodesOf left right (getD outputs w pastBag))) && not (isEmpty (nodesOf left right (getD outputs v pastBag)))) ≡ true)
+        {left′ right′ : List ℕ} {united : List ℕ}
+        (made : United left right (getD outputs v pastBag) (getD outputs w pastBag) left′ right′ united) where
       -- the lists then
-      abbrev outputs′ : List bag.Bag
-      outputs′ = set (set outputs v united) w emptyBagOf
+      abbrev outputs′ : List (List ℕ)
+      outputs′ = set (set outputs v united) w emptySlots
 
-      united-crew : crewOf inputs outputs′ phases ≡ set (set crew v (withOutput into united)) w (withOutput from emptyBagOf)
+      united-crew : crewOf inputs outputs′ phases ≡ set (set crew v (withOutput into united)) w (withOutput from emptySlots)
       united-crew =
-          crew-output (even-output even v united) w emptyBagOf ∙ ap (λ (l : List Worker). set l w (withOutput from emptyBagOf)) (crew-output even v united)
+          crew-output (even-output even v united) w emptySlots ∙ ap (λ (l : List Worker). set l w (withOutput from emptySlots)) (crew-output even v united)
 
       -- the run goes on, and as many count
-      unite-cleared : SameLengths distances parents left right number distances parents left′ right′ number
+      unite-cleared : length united ≡ slotCount → SameLengths distances parents left right number distances parents left′ right′ number
           → Going source P schedule offsets targets distances parents left′ right′ number inputs outputs′ phases busy (used + 1) (effective + 1) layer
-      unite-cleared lengths =
-          let counted = two-sum few-now manned (even-output (even-output even v united) w emptyBagOf) w v (withOutput from emptyBagOf) (withOutput into united)
-          (staffed turn) united-crew {a = activityOf from + activityOf into} {b = activityOf from + activityOf into}
-          (ap₂ _+_ (activity-output (from .input) (from .output) emptyBagOf (from .phase)) (activity-output (into .input) (into .output) united (into .phase)))
-          refl in
-          record {
-            playing = subst
-                (λ (l : List Worker). Playing source P schedule offsets targets distances parents left′ right′ number l (used + 1) (effective + 1) layer)
-                (sym united-crew)
-                (pair-on (uniting turn) pastCrew (rw (is-from, is-into) (unite-made from into left right left′ right′ united all-pooled met made)) lengths);
-            manned = record { even = even-output (even-output even v united) w emptyBagOf; counted = omega (arith, counted) };
-          }
+      unite-cleared long lengths = record {
+        playing = subst
+            (λ (l : List Worker). Playing source P schedule offsets targets distances parents left′ right′ number l (used + 1) (effective + 1) layer)
+            (sym united-crew)
+            (pair-on (uniting turn) pastCrew (rw (is-from, is-into) (unite-made from into left right left′ right′ united all-pooled met made)) lengths);
+        manned = manned-two few-now manned (even-output (even-output even v united) w emptySlots) w v (withOutput from emptySlots) (withOutput into united)
+            (staffed turn) united-crew refl refl refl (manned .inputs-full) (full-set (full-set (manned .outputs-full) v united long) w emptySlots refl);
+      }
 
       -- with a bag that is found to be empty
-      pub unite-on : {nothing : bag.Bag} → nothing .slots ≡ emptyBagOf .slots
+      pub unite-on : {nothing : List ℕ} → nothing ≡ emptySlots → length united ≡ slotCount
           → SameLengths distances parents left right number distances parents left′ right′ number
           → Going source P schedule offsets targets distances parents left′ right′ number inputs (set (set outputs v united) w nothing) phases busy
           (used + 1) (effective + 1) layer
-      unite-on none lengths =
-          subst
-          (λ (l : List ℕ).
-          Going source P schedule offsets targets distances parents left′ right′ number inputs (set (set outputs v united) w (record { slots = l })) phases busy
-          (used + 1) (effective + 1) layer)
-          (sym none) (unite-cleared lengths)
+      unite-on none long lengths = rw none (unite-cleared long lengths)
 
   -- Close.
 
   module _ {source : ℕ} {schedule offsets targets distances parents left right number : List ℕ} {used effective layer : ℕ}
       (turn : Turn source P schedule offsets targets distances parents left right number crew used effective layer Close) where
-    -- some worker isn't idle, by the count
+    -- some worker holds a vertex, by the count
     pub busy-on : (busy ≡ 0 → ⊥)
         → Going source P schedule offsets targets distances parents left right number inputs outputs phases busy (used + 1) effective layer
     busy-on some = record {
@@ -439,36 +400,35 @@ module _ {P busy : ℕ} {inputs outputs : List bag.Bag} {phases : List Phase} (m
       some-worker = turn .playing .ready .accepted .some-worker
 
       -- the bags that are gathered
-      first-slots : firstInput (take P crew) ≡ getD inputs 0 pastBag .slots
+      first-slots : firstInput (take P crew) ≡ getD inputs 0 pastBag
       first-slots =
           first-input P crew pastCrew some-worker (omega (arith, crew-long inputs outputs phases even))
-          ∙ ap (λ (x : Worker). x .input .slots) (worker-parts (turn .playing .ready .accepted .few-workers) manned 0)
+          ∙ ap (λ (x : Worker). x .input) (worker-parts (turn .playing .ready .accepted .few-workers) manned 0)
 
-      output-slots : outputsOf (take P crew) ≡ map slotsOf (take P outputs)
+      output-slots : outputsOf (take P crew) ≡ take P outputs
       output-slots = crew-outputs P inputs outputs phases even
 
-      pub gather-pooled : Pooled left right (getD inputs 0 pastBag .slots ∷ map slotsOf (take P outputs))
+      pub gather-pooled : Pooled left right (getD inputs 0 pastBag ∷ take P outputs)
       gather-pooled = rw (first-slots, output-slots) at (crew-pooled (take P crew) left right able-now)
 
-      module _ {left′ right′ : List ℕ} {b : bag.Bag}
-          (made : GatheredBags (getD inputs 0 pastBag .slots) (map slotsOf (take P outputs)) left right left′ right′ (b .slots)) where
+      module _ {left′ right′ : List ℕ} {b : List ℕ}
+          (made : GatheredBags (getD inputs 0 pastBag) (take P outputs) left right left′ right′ b) where
         -- they are the workers'
-        gathered : Gathered (take P crew) left right left′ right′ (b .slots)
+        gathered : Gathered (take P crew) left right left′ right′ b
         gathered = crew-gathered (take P crew) left right able-now (rw (first-slots, output-slots) made)
 
         -- the next layer opens
-        pub opened-on : NoInputs (take P crew) → isEmpty (nodesOf left′ right′ (b .slots)) ≡ false
+        pub opened-on : NoInputs (take P crew) → isEmpty (nodesOf left′ right′ b) ≡ false → length b ≡ slotCount → busy ≡ 0
             → SameLengths distances parents left right number distances parents left′ right′ number
-            → {busy′ : ℕ} {inputs′ outputs′ : List bag.Bag} {phases′ : List Phase} → busy′ ≡ activityOf (workerFrom b emptyBagOf Free)
-            → inputs′ ≡ firstOfEight b → outputs′ ≡ firstOfEight emptyBagOf → phases′ ≡ allFree
-            → Going source P schedule offsets targets distances parents left′ right′ number inputs′ outputs′ phases′ busy′ (used + 1) (effective + 1) (layer + 1)
-        opened-on bare filled lengths active first none free = record {
+            → {inputs′ outputs′ : List (List ℕ)} {phases′ : List Phase} → inputs′ ≡ firstOfEight b → outputs′ ≡ firstOfEight emptySlots → phases′ ≡ allFree
+            → Going source P schedule offsets targets distances parents left′ right′ number inputs′ outputs′ phases′ busy (used + 1) (effective + 1) (layer + 1)
+        opened-on bare filled long unheld lengths first none free = record {
           playing = raised-on turn (idle offsets number) gathered bare filled lengths (opened-as b first none free);
-          manned = manned-opened P b some-worker (turn .playing .ready .accepted .few-workers) active first none free;
+          manned = manned-opened P b some-worker (turn .playing .ready .accepted .few-workers) long unheld first none free;
         }
 
         -- or the search is finished
-        pub finished-ran : isEmpty (nodesOf left′ right′ (b .slots)) ≡ true → {answer : Answer}
+        pub finished-ran : isEmpty (nodesOf left′ right′ b) ≡ true → {answer : Answer}
             → answer ≡ answerOf success (used + 1) (effective + 1) layer
             → Ran (play (rowsOf offsets targets) source P schedule) distances parents answer
         finished-ran empty told = ended-ran turn (idle offsets number) gathered empty told

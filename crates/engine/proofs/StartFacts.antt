@@ -7,7 +7,6 @@ use native.Mathlib.Omega.{arith}
 use lib.ListN.{length, set, replicate}
 use Rattle.pennant.specs.Bag.{Bag, emptyBag}
 use Rattle.pennant.specs.Held.{one}
-use Rattle.bag.specs.declared.Bag as bag
 use Rattle.bag.specs.Promises.{weighFree}
 use Rattle.model.specs.Paths.{Labels}
 use Rattle.model.specs.State as model
@@ -27,8 +26,8 @@ module _ {source P : ℕ} {schedule offsets targets distances parents left right
   source-there = omega (arith, ready .accepted .source-below, ready .rows .count)
 
   -- the opened lists and workers are those of the model's opening
-  pub start-on : {distances′ parents′ left′ right′ number′ : List ℕ} {b : bag.Bag} {crew : List Worker}
-      → FirstLayer P source distances distances′ parents′ left′ right′ number′ (b .slots) → crew ≡ openedCrew b
+  pub start-on : {distances′ parents′ left′ right′ number′ : List ℕ} {b : List ℕ} {crew : List Worker}
+      → FirstLayer P source distances distances′ parents′ left′ right′ number′ b → crew ≡ openedCrew b
       → SameLengths distances parents left right number distances′ parents′ left′ right′ number′
       → Playing source P schedule offsets targets distances′ parents′ left′ right′ number′ crew 0 0 0
   unfolding play playFrom stateOf openingState

@@ -53,16 +53,16 @@ module _ {source P : ℕ} {schedule offsets targets distances parents left right
   shown = worker-shown at d w there
 
   -- numbers in its input bag are vertices
-  input-vertices : (v : ℕ) → 1 ≤ copies v (heldBy left right number (worker .input .slots)) → v < length distances
+  input-vertices : (v : ℕ) → 1 ≤ copies v (heldBy left right number (worker .input)) → v < length distances
   unfolding workerOf
   input-vertices v h = omega (arith, at .ready .rows .count, now-fits at .inputs-below w v (rw (ap {B = Bag} (λ (x : model.Worker). x .input) shown) h))
 
   -- what its two bags hold
   abbrev input : Bag
-  input = heldBy left right number (worker .input .slots)
+  input = heldBy left right number (worker .input)
 
   abbrev output : Bag
-  output = heldBy left right number (worker .output .slots)
+  output = heldBy left right number (worker .output)
 
   -- the worker after it has stowed
   stowed : (u i t : ℕ) → model.Worker
@@ -111,7 +111,7 @@ module _ {source P : ℕ} {schedule offsets targets distances parents left right
       ∙ ap (λ (x : model.Worker). putInto (movedState (now-state at) w) (moveOf (graph at) layer (labelsOf distances parents) x)) shown
 
   -- a free worker whose input bag is empty has none
-  pub idle-on : worker .phase ≡ Free → isEmpty (nodesOf left right (worker .input .slots)) ≡ true
+  pub idle-on : worker .phase ≡ Free → isEmpty (nodesOf left right (worker .input)) ≡ true
       → Playing source P schedule offsets targets distances parents left right number crew (used + 1) effective layer
   idle-on free empty =
       unmet-on turn

@@ -4,18 +4,19 @@ ghost use Rattle.graph.specs.Graph.{rowsOf};
 ghost use Rattle.model.specs.Play.{play};
 ghost use Rattle.engine.specs.Runs.{answerOf, Runnable, Ran};
 use crate::Answer;
+use bag::Bag;
 use opening::open;
 use schedule::Event;
 use workers::Phase;
-use workers::activity;
 use workers::advance;
+use workers::all_empty;
 use workers::all_free;
-use workers::all_idle;
 use workers::begin;
 use workers::can_split;
 use workers::can_unite;
 use workers::first_of_eight;
 use workers::gather;
+use workers::held;
 use workers::stow;
 
 // The run's answer.
@@ -30,8 +31,8 @@ fn conclude(number: usize, used: usize, effective: usize, layer: u16) -> Answer
     }
 }
 
-// Plays the schedule. `busy` counts the workers that are not idle, so that a close whose condition
-// isn't met is told without a look at any of them.
+// Plays the schedule. `busy` counts the workers that hold a vertex, so that most closes whose
+// condition isn't met are told without a look at any of them.
 pub fn run(
     source: u16,
     workers: usize,
@@ -47,12 +48,13 @@ pub fn run(
     requires { ⌜ Runnable source workers (now schedule) (now offsets) (now targets) (now distances) (now parents) (now left) (now right) (now number) ⌝ }
     ensures { λ r. ⌜ Ran (play (rowsOf (now (offsets .entry)) (now (targets .entry))) source workers (now (schedule .entry))) (now (distances .exit)) (now (parents .exit)) r ⌝ }
 {
-    let idle = Phase::Free;
     let source_bag = open(source, workers, distances, parents, left, right, number);
-    let mut busy = activity(idle, source_bag);
+    // A bag of a worker stands here as its slots, which can be lent and changed where they are, as a
+    // struct can't; where a bag is handed over, the struct is made of them.
     let mut inputs = first_of_eight(source_bag);
     let mut outputs = first_of_eight(bag::empty());
     let mut phases = all_free();
+    let mut busy = 0;
     let mut used = 0;
     let mut effective = 0;
     let mut layer: u16 = 0;
@@ -63,13 +65,11 @@ pub fn run(
             Event::Work { worker: w } => {
                 let phase = phases[w];
                 if let Phase::Free = phase {
-                    if !bag::is_empty(inputs[w]) {
-                        let begun = begin(inputs[w], offsets, left, right, number);
-                        let rest = begun.input;
-                        let next = begun.phase;
-                        inputs[w] = rest;
+                    let slots = inputs[w];
+                    if !bag::is_empty(Bag { slots }) {
+                        let next = begin(&mut inputs[w], offsets, left, right, number);
                         phases[w] = next;
-                        busy = busy + activity(next, rest) - 1;
+                        busy += held(next);
                         effective += 1;
                     }
                 } else if let Phase::Named {
@@ -78,45 +78,59 @@ pub fn run(
                     end,
                     target,
                 } = phase {
-                    let stowed = stow(outputs[w], vertex, edge, end, target, left, right, number);
-                    let more = stowed.output;
-                    let next = stowed.phase;
-                    outputs[w] = more;
+                    let next = stow(
+                        &mut outputs[w],
+                        vertex,
+                        edge,
+                        end,
+                        target,
+                        left,
+                        right,
+                        number,
+                    );
                     phases[w] = next;
-                    busy = busy + activity(next, inputs[w]) - 1;
+                    busy = busy + held(next) - 1;
                     effective += 1;
                 } else {
                     let next = advance(phase, layer, targets, distances, parents);
                     phases[w] = next;
-                    busy = busy + activity(next, inputs[w]) - 1;
+                    busy = busy + held(next) - 1;
                     effective += 1;
                 }
             }
             Event::Split { taker: w, giver: v } => {
-                if can_split(inputs[w], inputs[v]) {
-                    // The giver is not idle before or after; the taker was if it is free, and is not.
-                    let was = activity(phases[w], inputs[w]);
-                    let halves = bag::split(inputs[v], left, right);
+                let taken = inputs[w];
+                let slots = inputs[v];
+                let giver = Bag { slots };
+                if can_split(Bag { slots: taken }, giver) {
+                    let halves = bag::split(giver, left, right);
                     let kept = halves.first;
                     let given = halves.second;
-                    inputs[v] = kept;
-                    inputs[w] = given;
-                    busy = busy + 1 - was;
+                    let first = kept.slots;
+                    let second = given.slots;
+                    inputs[v] = first;
+                    inputs[w] = second;
                     effective += 1;
                 }
             }
             Event::Unite { giver: w, taker: v } => {
-                if can_unite(outputs[w], outputs[v]) {
-                    let united = bag::union(outputs[v], outputs[w], left, right);
-                    outputs[v] = united;
-                    outputs[w] = bag::empty();
+                let given = outputs[w];
+                let slots = outputs[v];
+                let giver = Bag { slots: given };
+                let taker = Bag { slots };
+                if can_unite(giver, taker) {
+                    let united = bag::union(taker, giver, left, right);
+                    let more = united.slots;
+                    outputs[v] = more;
+                    outputs[w] = [0; 16];
                     effective += 1;
                 }
             }
             Event::Close => {
                 if busy == 0 {
-                    if all_idle(inputs, phases, workers) {
-                        let united = gather(inputs[0], outputs, workers, left, right);
+                    if all_empty(&inputs, workers) {
+                        let slots = inputs[0];
+                        let united = gather(Bag { slots }, &outputs, workers, left, right);
                         // "d grows by 1", unless the search is finished: "d stays".
                         let next = layer + 1;
                         let counted = effective + 1;
@@ -125,8 +139,6 @@ pub fn run(
                         }
                         layer = next;
                         effective = counted;
-                        let idle = Phase::Free;
-                        busy = activity(idle, united);
                         inputs = first_of_eight(united);
                         outputs = first_of_eight(bag::empty());
                         phases = all_free();

@@ -11,6 +11,7 @@ pub mod HeaderFacts
 pub mod ScanFacts
 pub mod WordRuns
 pub mod WalkFacts
+pub mod AheadFacts
 pub mod RankFacts
 pub mod RowFacts
 pub mod ReadFacts

@@ -51,7 +51,7 @@ unfolding chain
 chain-step file steps r h = chain-some (next file) steps r h
 
 -- what stands behind the first n words
-abbrev behind : List ℕ → ℕ → List ℕ
+abbrev pub behind : List ℕ → ℕ → List ℕ
 behind file n = take (length file - 2 * n) (drop (2 * n) file)
 
 -- a word of it

@@ -1,18 +1,20 @@
 // The steps of reading, in the order of their refusals. The search and the checker take the same
 // steps with checks of their own between them. Each may assume what the steps before it showed.
 ghost use mathlib.Core.Path.{_≡_};
-ghost use Prim.Native.Nat.{ℕ, _+_, _<_, _≤_};
+ghost use Prim.Native.Nat.{ℕ, _+_, _*_, _-_, _<_, _≤_, min};
 ghost use lib.ListN.{length, getD, drop};
 ghost use Rattle.numbers.specs.Refusals.{first};
 ghost use Rattle.lists.specs.Lists.{overlay};
 ghost use Rattle.graph.specs.Graph.{offsetsOf, targetsOf};
-ghost use Rattle.graph.specs.File.{graphOf};
+ghost use Rattle.graph.specs.File.{headIndex, graphOf};
+ghost use Rattle.graph.specs.File.{word as File·word};
 ghost use Rattle.graph.specs.Read.{refusalAnswer, outsideSizes, scanRefusals, chainRefusals, rowsShort};
 ghost use Rattle.graph.specs.Steps.{headerAnswer, Sized, Scanned, Chained, Ranked, Unchained};
 use crate::ReadAnswer;
 use crate::words::element;
 use crate::words::larger;
 use crate::words::largest_word;
+use crate::words::smaller;
 use crate::words::wide16;
 use crate::words::word;
 use crate::words::word16;
@@ -131,10 +133,29 @@ pub fn unchain(
     number
 }
 
+// The next index of the record; of 0, which is none, the word before the first record.
+fn next_of(records: &[u8], index: usize) -> usize
+    requires { ⌜ 4 * index + 3 < length (now records) ⌝ }
+    ensures { λ r. ⌜ r ≡ File·word (now (records .entry)) (2 * index + 1) ⌝ }
+{
+    word(records, 2 * index + 1)
+}
+
+// The head of the vertex; from n on, where there is none, the last one.
+fn head_of(file: &[u8], n: usize, vertex: usize) -> usize
+    requires { ⌜ 1 ≤ n ⌝ }
+    requires { ⌜ 2 * (2 + n) ≤ length (now file) ⌝ }
+    ensures { λ r. ⌜ r ≡ headIndex (now (file .entry)) (min vertex (n - 1)) ⌝ }
+{
+    word(file, 2 + smaller(vertex, n - 1))
+}
+
 // Follows every chain and marks each record it meets with its rank, 1 for the first, 2 for the next:
-// 5 at a record that is marked already, 6 where one is left unmarked at the end. Each step waits for
-// the index that the one before it read; so that this index leads straight to its words, `records`
-// begins at word n, and record r stands at its word 2 * r.
+// 5 at a record that is marked already, 6 where one is left unmarked at the end. Each index waits for
+// the one before it; so that it leads straight to its words, `records` begins at word n, and record r
+// stands at its word 2 * r. The walk reads two indices ahead, `next` and `after`, so that a chain's end
+// is known early, and the next vertex's `head` and the two after it, while this chain is walked. What
+// is read behind a chain's end or the last vertex is not used: so reading ahead takes no branch.
 fn rank(file: &[u8], n: usize, m: usize, marks: &mut [u16]) -> usize
     requires { ⌜ Scanned (now file) n m ⌝ }
     requires { ⌜ m ≤ length (now marks) ⌝ }
@@ -147,21 +168,33 @@ fn rank(file: &[u8], n: usize, m: usize, marks: &mut [u16]) -> usize
     let records = &file[start..];
     let mut vertex = 0;
     let mut index = 0;
+    let mut next = 0;
+    let mut after = 0;
+    let mut head = head_of(file, n, 0);
+    let mut second = next_of(records, head);
+    let mut third = next_of(records, second);
     let mut count = 0;
     loop {
         if index == 0 {
             if vertex == n {
                 break;
             }
-            index = word(file, 2 + vertex);
+            index = head;
+            next = second;
+            after = third;
             vertex += 1;
+            head = head_of(file, n, vertex);
+            second = next_of(records, head);
+            third = next_of(records, second);
         } else {
             if marks[index - 1] != 0 {
                 return numbers::REPEATED;
             }
             count += 1;
             marks[index - 1] = count as u16;
-            index = word(records, 2 * index + 1);
+            index = next;
+            next = after;
+            after = next_of(records, after);
         }
     }
     if count < m {

@@ -11,9 +11,8 @@ use Rattle.lists.proofs.Parts.{getD-repeated, take-repeated}
 use Rattle.lists.proofs.Replaced.{map-set, map-repeated, set-two-again}
 use Rattle.pennant.specs.Bag.{emptyBag}
 use Rattle.pennant.specs.Held.{weigh, size}
-use Rattle.bag.specs.Nodes.{nodesOf, heldBy, emptySlots}
+use Rattle.bag.specs.Nodes.{nodesOf, heldBy}
 use Rattle.bag.specs.Promises.{weighNodes, Pooled, Moved}
-use Rattle.bag.specs.declared.Bag as bag
 use Rattle.bag.proofs.Family.{moved-pool, same-moved, Parts, pool-part, rest-held, family-moved}
 use Rattle.bag.proofs.Free.{empty-weight}
 use Rattle.bag.proofs.HeldFacts.{held-none}
@@ -25,11 +24,11 @@ use Rattle.workers.specs.Steps.{Apart, withInput, idleOne, openedCrew}
 
 -- what is read past the end of a crew
 abbrev pub pastCrew : Worker
-pastCrew = record { input = record { slots = [] }; output = record { slots = [] }; phase = Free }
+pastCrew = record { input = []; output = []; phase = Free }
 
 -- the sum of f over the nodes of a worker's two bags
 abbrev pub weighWorker : (ℕ → ℕ) → List ℕ → List ℕ → Worker → ℕ
-weighWorker f left right w = weigh f (nodesOf left right (w .input .slots)) + weigh f (nodesOf left right (w .output .slots))
+weighWorker f left right w = weigh f (nodesOf left right (w .input)) + weigh f (nodesOf left right (w .output))
 
 -- the bags of a crew weigh what the bags of each worker weigh
 pub bags-weigh : (f : ℕ → ℕ) (left right : List ℕ) (crew : List Worker) → weighNodes f left right (bagsOf crew) ≡ sumOf (weighWorker f left right) crew
@@ -72,8 +71,8 @@ held-workers : (offsets left right number left′ right′ number′ : List ℕ)
 unfolding bagsOf workerOf
 held-workers offsets left right number left′ right′ number′ [] same = refl
 held-workers offsets left right number left′ right′ number′ (w ∷ crew) same =
-    let input : heldBy left′ right′ number′ (w .input .slots) ≡ heldBy left right number (w .input .slots) = cc in
-    let output : heldBy left′ right′ number′ (w .output .slots) ≡ heldBy left right number (w .output .slots) = cc in
+    let input : heldBy left′ right′ number′ (w .input) ≡ heldBy left right number (w .input) = cc in
+    let output : heldBy left′ right′ number′ (w .output) ≡ heldBy left right number (w .output) = cc in
     let others : map (heldBy left′ right′ number′) (bagsOf crew) ≡ map (heldBy left right number) (bagsOf crew) = cc in
     rw (input, output, held-workers offsets left right number left′ right′ number′ crew others)
 
@@ -185,7 +184,7 @@ held-crew offsets left right number (w ∷ crew) = omega (arith, held-crew offse
 
 -- A layer that opens.
 
-module _ (P : ℕ) (b : bag.Bag) (some-worker : 1 ≤ P) (few-workers : P ≤ 8) where
+module _ (P : ℕ) (b : List ℕ) (some-worker : 1 ≤ P) (few-workers : P ≤ 8) where
   -- the crew of P workers as a layer opens
   pub opened-crew : take P (openedCrew b) ≡ set (replicate P idleOne) 0 (withInput idleOne b)
   opened-crew =
@@ -195,7 +194,7 @@ module _ (P : ℕ) (b : bag.Bag) (some-worker : 1 ≤ P) (few-workers : P ≤ 8)
   -- the workers that they stand for
   pub opened-workers : (offsets left right number : List ℕ)
       → workersOf offsets left right number (take P (openedCrew b))
-      ≡ set (replicate P model.idleWorker) 0 (model.workerWith (heldBy left right number (b .slots)) emptyBag model.free)
+      ≡ set (replicate P model.idleWorker) 0 (model.workerWith (heldBy left right number b) emptyBag model.free)
   unfolding workerOf phaseOf
   opened-workers offsets left right number =
       ap (map shown) opened-crew ∙ map-set shown (replicate P idleOne) 0 (withInput idleOne b) ∙ rw (map-repeated shown P idleOne, held-none left right number)
@@ -204,7 +203,7 @@ module _ (P : ℕ) (b : bag.Bag) (some-worker : 1 ≤ P) (few-workers : P ≤ 8)
       shown = workerOf offsets left right number
 
   -- they weigh what the one bag weighs
-  pub opened-whole : (f : ℕ → ℕ) (left right : List ℕ) → weighNodes f left right (bagsOf (take P (openedCrew b))) ≡ weighNodes f left right (b .slots ∷ [])
+  pub opened-whole : (f : ℕ → ℕ) (left right : List ℕ) → weighNodes f left right (bagsOf (take P (openedCrew b))) ≡ weighNodes f left right (b ∷ [])
   unfolding weighNodes sumOf
   opened-whole f left right =
       ap (λ (crew : List Worker). weighNodes f left right (bagsOf crew)) opened-crew
@@ -214,10 +213,10 @@ module _ (P : ℕ) (b : bag.Bag) (some-worker : 1 ≤ P) (few-workers : P ≤ 8)
       ∙ omega (arith, empty-weight left right f)
 
   -- and are well-formed where it is
-  pub opened-pool : {left right : List ℕ} → Pooled left right (b .slots ∷ []) → Pooled left right (bagsOf (take P (openedCrew b)))
+  pub opened-pool : {left right : List ℕ} → Pooled left right (b ∷ []) → Pooled left right (bagsOf (take P (openedCrew b)))
   opened-pool {left} {right} pool = moved-pool pool (same-moved (λ f. opened-whole f left right))
 
 -- as a layer opens, all workers are free
-pub opened-free : (b : bag.Bag) (w : ℕ) (d : Worker) → w < 8 → getD (openedCrew b) w d .phase ≡ Free
+pub opened-free : (b : List ℕ) (w : ℕ) (d : Worker) → w < 8 → getD (openedCrew b) w d .phase ≡ Free
 opened-free b zero d h = refl
 opened-free b (suc w) d h = ap (λ (x : Worker). x .phase) (getD-replicate 7 w idleOne d (omega arith))

@@ -5,22 +5,20 @@ use mathlib.Core.List.{List, [], _∷_, map, map-map, map-append, foldl, foldl-a
 use Prim.Native.Nat.{ℕ, zero, suc, _+_, _≤_, _<_}
 use native.Mathlib.Numerals.{add-one}
 use native.Mathlib.Omega.{arith}
-use lib.ListN.{length, getD, take, drop, length-map}
+use lib.ListN.{length, getD, take, drop}
 use lib.Seq.{take-suc, drop-cons, take-length, drop-length, length-take-le, getD-take}
 use Rattle.lists.specs.Lists.{sumOf}
-use Rattle.lists.proofs.Replaced.{map-at}
 use Rattle.pennant.specs.Bag.{Bag, bagUnion}
 use Rattle.pennant.proofs.Laws.{empty-weighs}
 use Rattle.bag.specs.Nodes.{nodesOf, heldBy, emptySlots}
 use Rattle.bag.specs.Promises.{weighNodes, Pooled, Moved, United}
-use Rattle.bag.specs.declared.Bag as bag
 use Rattle.bag.proofs.Family.{moved-pool, same-moved, moved-less, moved-again, pool-two, family-two, family-held-two}
 use Rattle.bag.proofs.Free.{empty-weight}
 use Rattle.bag.proofs.HeldFacts.{held-empty}
 use Rattle.model.specs.State as model
 use Rattle.model.specs.Table.{allIdle, unitedOutputs}
 use Rattle.model.proofs.Workers.{idle-first}
-use Rattle.workers.specs.Shown.{Worker, workerOf, workersOf, bagsOf, slotsOf}
+use Rattle.workers.specs.Shown.{Worker, workerOf, workersOf, bagsOf}
 use Rattle.workers.specs.Steps.{Gatherable, Gathered, GatheredBags}
 use Rattle.workers.proofs.PartsFacts.{pastBag}
 
@@ -136,50 +134,49 @@ gather-end first bags left₀ right₀ left right slots gathering = record {
 
 -- The first P of a longer list of bags.
 
-module _ (outputs : List bag.Bag) (P : ℕ) (there : P ≤ length outputs) where
+module _ (outputs : List (List ℕ)) (P : ℕ) (there : P ≤ length outputs) where
   -- so many
-  few : length (map slotsOf (take P outputs)) ≡ P
-  few = length-map (take P outputs) slotsOf ∙ length-take-le P outputs there
+  few : length (take P outputs) ≡ P
+  few = length-take-le P outputs there
 
-  module _ {first left₀ right₀ left right slots : List ℕ} (w : ℕ) (gathering : Gathering first (map slotsOf (take P outputs)) left₀ right₀ w left right slots)
+  module _ {first left₀ right₀ left right slots : List ℕ} (w : ℕ) (gathering : Gathering first (take P outputs) left₀ right₀ w left right slots)
       (below : w < P) where
     -- the next one
-    next-slots : getD (map slotsOf (take P outputs)) w [] ≡ getD outputs w pastBag .slots
-    next-slots =
-        map-at slotsOf (take P outputs) w pastBag [] (rw (length-take-le P outputs there) below) ∙ ap slotsOf (getD-take P outputs w pastBag below)
+    next-slots : getD (take P outputs) w [] ≡ getD outputs w pastBag
+    next-slots = getD-take P outputs w pastBag below
 
     -- what a union requires
-    pub gather-next-requires : Pooled left right (slots ∷ getD outputs w pastBag .slots ∷ [])
+    pub gather-next-requires : Pooled left right (slots ∷ getD outputs w pastBag ∷ [])
     gather-next-requires =
-        rw next-slots at (gather-requires first (map slotsOf (take P outputs)) left₀ right₀ w left right slots gathering (rw few below))
+        rw next-slots at (gather-requires first (take P outputs) left₀ right₀ w left right slots gathering (rw few below))
 
     -- one bag more
-    pub gather-next : {left′ right′ slots′ : List ℕ} → United left right slots (getD outputs w pastBag .slots) left′ right′ slots′
-        → Gathering first (map slotsOf (take P outputs)) left₀ right₀ (w + 1) left′ right′ slots′
+    pub gather-next : {left′ right′ slots′ : List ℕ} → United left right slots (getD outputs w pastBag) left′ right′ slots′
+        → Gathering first (take P outputs) left₀ right₀ (w + 1) left′ right′ slots′
     gather-next {left′} {right′} {slots′} made =
-        gather-step first (map slotsOf (take P outputs)) left₀ right₀ w left right slots gathering (rw few below) left′ right′ slots′ (rw next-slots made)
+        gather-step first (take P outputs) left₀ right₀ w left right slots gathering (rw few below) left′ right′ slots′ (rw next-slots made)
 
   -- the end
   pub gather-last : {first left₀ right₀ left right slots : List ℕ} (w : ℕ) → P ≤ w
-      → Gathering first (map slotsOf (take P outputs)) left₀ right₀ w left right slots
-      → GatheredBags first (map slotsOf (take P outputs)) left₀ right₀ left right slots
+      → Gathering first (take P outputs) left₀ right₀ w left right slots
+      → GatheredBags first (take P outputs) left₀ right₀ left right slots
   gather-last {first} {left₀} {right₀} {left} {right} {slots} w past gathering =
-      gather-end first (map slotsOf (take P outputs)) left₀ right₀ left right slots
-      (subst (λ (i : ℕ). Gathering first (map slotsOf (take P outputs)) left₀ right₀ i left right slots) (omega (arith, gathering .within, few)) gathering)
+      gather-end first (take P outputs) left₀ right₀ left right slots
+      (subst (λ (i : ℕ). Gathering first (take P outputs) left₀ right₀ i left right slots) (omega (arith, gathering .within, few)) gathering)
 
 -- Idle workers.
 
 -- the slots of the output bags
 abbrev pub outputsOf : List Worker → List (List ℕ)
-outputsOf crew = map (λ (x : Worker). x .output .slots) crew
+outputsOf crew = map (λ (x : Worker). x .output) crew
 
 -- the slots of the first worker's input bag
 abbrev pub firstInput : List Worker → List ℕ
 firstInput [] = emptySlots
-firstInput (x ∷ crew) = x .input .slots
+firstInput (x ∷ crew) = x .input
 
 -- which is that of the first of so many, if there are any
-pub first-input : (P : ℕ) (crew : List Worker) (d : Worker) → 1 ≤ P → 1 ≤ length crew → firstInput (take P crew) ≡ getD crew 0 d .input .slots
+pub first-input : (P : ℕ) (crew : List Worker) (d : Worker) → 1 ≤ P → 1 ≤ length crew → firstInput (take P crew) ≡ getD crew 0 d .input
 first-input zero crew d some-worker some = absurd (omega arith)
 first-input (suc P) [] d some-worker some = absurd (omega arith)
 first-input (suc P) (x ∷ crew) d some-worker some = refl
@@ -191,7 +188,7 @@ unfolding weighNodes sumOf bagsOf workerOf
 inputs-weigh f left right [] idle = refl
 inputs-weigh f left right (x ∷ crew) idle =
     let first = idle-first (workerOf [] left right [] x) (workersOf [] left right [] crew) idle in
-    let none = empty-weighs f (nodesOf left right (x .input .slots)) (sym (held-empty left right [] (x .input .slots)) ∙ first .0 .input-empty) in
+    let none = empty-weighs f (nodesOf left right (x .input)) (sym (held-empty left right [] (x .input)) ∙ first .0 .input-empty) in
     omega (arith, inputs-weigh f left right crew (first .1))
 
 -- so the first of them may stand beside the outputs
@@ -210,7 +207,7 @@ unfolding unitedOutputs workerOf
 united-all offsets left right number [] some-worker = absurd (omega arith)
 united-all offsets left right number (x ∷ crew) some-worker =
     rw (
-      map-map (heldBy left right number) (λ (y : Worker). y .output .slots) (x ∷ crew),
+      map-map (heldBy left right number) (λ (y : Worker). y .output) (x ∷ crew),
       map-map (λ (w : model.Worker). w .output) (workerOf offsets left right number) (x ∷ crew),
     )
 

@@ -1,9 +1,9 @@
--- The test for an idle crew, worker after worker; and how many workers are not idle, which tells it without looking at any.
-use mathlib.Core.Path.{_≡_, refl, sym, ap, ap₂, _∙_}
-use mathlib.Core.Bool.{Bool, true, false, cond, _&&_, true≢false}
+-- The test for an idle crew, worker after worker; and how many workers hold a vertex, which tells of a crew that isn't without looking at any.
+use mathlib.Core.Path.{_≡_, refl, sym, ap, _∙_}
+use mathlib.Core.Bool.{Bool, true, false, _&&_, true≢false}
 use mathlib.Core.Logic.{⊎-elim}
 use mathlib.Core.List.{List, [], _∷_}
-use Prim.Native.Nat.{ℕ, zero, suc, _+_, _≤_, _<_}
+use Prim.Native.Nat.{ℕ, suc, _+_, _≤_, _<_}
 use native.Mathlib.Numerals.{add-one}
 use native.Mathlib.Decide.{ℕ-discrete}
 use native.Mathlib.Omega.{arith}
@@ -15,43 +15,66 @@ use Rattle.lists.proofs.Sums.{sum-set}
 use Rattle.lists.proofs.Parts.{getD-any}
 use Rattle.pennant.specs.Bag.{slotCount, isEmpty}
 use Rattle.bag.specs.Nodes.{nodesOf, heldBy, emptySlots}
-use Rattle.bag.specs.declared.Bag as bag
-use Rattle.bag.proofs.HeldFacts.{held-empty, empty-any, bare-slots}
+use Rattle.bag.proofs.HeldFacts.{held-empty, bare-slots}
 use Rattle.model.specs.Table.{isFree, isIdle, allIdle}
 use Rattle.workers.specs.declared.Phase.{Phase}
 use Rattle.workers.specs.declared.Phase.the-variants.{Free, Holding, InHand, Marked, Named}
 use Rattle.workers.specs.Shown.{Worker, workerFrom, phaseOf, workerOf, workersOf}
-use Rattle.workers.specs.Steps.{NoInputs, activityOf}
+use Rattle.workers.specs.Steps.{NoInputs, heldOf, activityOf}
 
 -- One worker.
 
-module _ (phase : Phase) (input : bag.Bag) {r : Bool} (long : length (input .slots) ≡ slotCount)
-    (told : (left right : List ℕ) → r ≡ isEmpty (nodesOf left right (input .slots))) where
+module _ (input : List ℕ) {r : Bool} (told : (left right : List ℕ) → r ≡ isEmpty (nodesOf left right input)) where
   -- a free one is idle if its input bag is empty
-  pub idle-free : phase ≡ Free → (output : bag.Bag) (offsets left right number : List ℕ)
+  pub idle-free : {phase : Phase} → phase ≡ Free → (output offsets left right number : List ℕ)
       → r ≡ isIdle (workerOf offsets left right number (workerFrom input output phase))
   unfolding workerOf isFree phaseOf
-  idle-free free output offsets left right number = rw free (told left right ∙ sym (held-empty left right number (input .slots)))
+  idle-free free output offsets left right number = rw free (told left right ∙ sym (held-empty left right number input))
 
   -- and then nothing is in its slots
-  pub idle-bare : r ≡ true → input .slots ≡ emptySlots
-  idle-bare e = bare-slots [] [] (input .slots) long (sym (told [] []) ∙ e)
+  pub idle-bare : length input ≡ slotCount → r ≡ true → input ≡ emptySlots
+  idle-bare long e = bare-slots [] [] input long (sym (told [] []) ∙ e)
 
--- one that is not free
-pub busy-test : (tag : Phase → ℕ) → tag Free ≡ 0 → (phase : Phase) (input output : bag.Bag) → OneOf (1 ∷ 2 ∷ 3 ∷ 4 ∷ []) (tag phase)
-    → (offsets left right number : List ℕ)
-    → false ≡ isIdle (workerOf offsets left right number (workerFrom input output phase))
-unfolding workerOf isFree phaseOf
-busy-test tag none phase input output busy offsets left right number =
-    ap (λ (b : Bool). b && isEmpty (heldBy left right number (input .slots))) (not-free phase busy)
-  where
-    not-free : (p : Phase) → OneOf (1 ∷ 2 ∷ 3 ∷ 4 ∷ []) (tag p) → false ≡ isFree (phaseOf offsets p)
-    not-free Free h = absurd
-        (⊎-elim (λ e. omega arith) (λ k. ⊎-elim (λ e. omega arith) (λ k. ⊎-elim (λ e. omega arith) (λ e. omega arith) k) k) h)
-    not-free (Holding u e f) h = refl
-    not-free (InHand u e f t) h = refl
-    not-free (Marked u e f t) h = refl
-    not-free (Named u e f t) h = refl
+-- one that is not free holds a vertex
+pub held-one : (phase : Phase) → (phase ≡ Free → ⊥) → heldOf phase ≡ 1
+unfolding heldOf
+held-one Free h = absurd (h refl)
+held-one (Holding u e f) h = refl
+held-one (InHand u e f t) h = refl
+held-one (Marked u e f t) h = refl
+held-one (Named u e f t) h = refl
+
+-- as its tag tells
+pub held-told : (tag : Phase → ℕ) → tag Free ≡ 0 → (phase : Phase) → OneOf (1 ∷ 2 ∷ 3 ∷ 4 ∷ []) (tag phase) → phase ≡ Free → ⊥
+held-told tag none phase told free =
+    ⊎-elim (λ e. omega (arith, ap tag free)) (λ k. ⊎-elim (λ e. omega (arith, ap tag free)) (λ k. ⊎-elim (λ e. omega (arith, ap tag free)) (λ e. omega (arith, ap tag free)) k) k) told
+
+-- one that is free does not
+pub held-none : (offsets : List ℕ) (phase : Phase) → isFree (phaseOf offsets phase) ≡ true → heldOf phase ≡ 0
+unfolding heldOf isFree phaseOf
+held-none offsets Free e = refl
+held-none offsets (Holding u i f) e = absurd (true≢false (sym e))
+held-none offsets (InHand u i f t) e = absurd (true≢false (sym e))
+held-none offsets (Marked u i f t) e = absurd (true≢false (sym e))
+held-none offsets (Named u i f t) e = absurd (true≢false (sym e))
+
+-- and the other way round
+pub held-free : (phase : Phase) → heldOf phase ≡ 0 → phase ≡ Free
+unfolding heldOf
+held-free Free e = refl
+held-free (Holding u i f) e = absurd (omega arith)
+held-free (InHand u i f t) e = absurd (omega arith)
+held-free (Marked u i f t) e = absurd (omega arith)
+held-free (Named u i f t) e = absurd (omega arith)
+
+-- it is 1 at most
+pub held-few : (phase : Phase) → heldOf phase ≤ 1
+unfolding heldOf
+held-few Free = omega arith
+held-few (Holding u e f) = omega arith
+held-few (InHand u e f t) = omega arith
+held-few (Marked u e f t) = omega arith
+held-few (Named u e f t) = omega arith
 
 -- All of them.
 
@@ -78,15 +101,15 @@ module _ (crew : List Worker) (P w : ℕ) (d : Worker) (there : P ≤ length cre
 
 -- the input bags before w are empty
 abbrev pub BareBefore : List Worker → ℕ → Type 0
-BareBefore crew w = (d : Worker) (j : ℕ) → j < w → getD crew j d .input .slots ≡ emptySlots
+BareBefore crew w = (d : Worker) (j : ℕ) → j < w → getD crew j d .input ≡ emptySlots
 
 -- and the next one is
-pub bare-pass : (crew : List Worker) (w : ℕ) (d : Worker) → w < length crew → BareBefore crew w → getD crew w d .input .slots ≡ emptySlots
+pub bare-pass : (crew : List Worker) (w : ℕ) (d : Worker) → w < length crew → BareBefore crew w → getD crew w d .input ≡ emptySlots
     → BareBefore crew (w + 1)
 bare-pass crew w d inside before here e j h = go (ℕ-discrete j w)
   where
-    go : Dec (j ≡ w) → getD crew j e .input .slots ≡ emptySlots
-    go (yes same) = rw same (ap {B = List ℕ} (λ (x : Worker). x .input .slots) (getD-any crew w e d inside) ∙ here)
+    go : Dec (j ≡ w) → getD crew j e .input ≡ emptySlots
+    go (yes same) = rw same (ap {B = List ℕ} (λ (x : Worker). x .input) (getD-any crew w e d inside) ∙ here)
     go (no apart) = before e j (omega arith)
 
 -- so all are
@@ -102,78 +125,28 @@ unfolding allIdle
 idle-done crew P w there before past offsets left right number =
     rw (before offsets left right number, drop-of-length-le (take P crew) {i = w} (rw (length-take-le P crew there) past))
 
--- How many are not idle.
+-- How many hold a vertex.
 
--- whether a phase is the free one depends on no list
-free-any : (offsets : List ℕ) (phase : Phase) → isFree (phaseOf offsets phase) ≡ isFree (phaseOf [] phase)
-unfolding phaseOf isFree
-free-any offsets Free = refl
-free-any offsets (Holding u e f) = refl
-free-any offsets (InHand u e f t) = refl
-free-any offsets (Marked u e f t) = refl
-free-any offsets (Named u e f t) = refl
+-- both of two tests
+and-both : (a b : Bool) → (a && b) ≡ true → (a ≡ true) × (b ≡ true)
+and-both true b e = (refl, e)
+and-both false b e = absurd (true≢false (sym e))
 
--- nor whether a worker is idle
-pub idle-any : (offsets left right number : List ℕ) (worker : Worker)
-    → isIdle (workerOf offsets left right number worker) ≡ isIdle (workerOf [] [] [] [] worker)
+-- an idle worker is free
+idle-phase : (offsets left right number : List ℕ) (x : Worker) → isIdle (workerOf offsets left right number x) ≡ true → isFree (phaseOf offsets (x .phase)) ≡ true
 unfolding workerOf
-idle-any offsets left right number worker =
-    ap₂ _&&_ (free-any offsets (worker .phase))
-    (held-empty left right number (worker .input .slots) ∙ empty-any left right (worker .input .slots) ∙ sym (held-empty [] [] [] (worker .input .slots)))
+idle-phase offsets left right number x idle = and-both (isFree (phaseOf offsets (x .phase))) (isEmpty (heldBy left right number (x .input))) idle .0
 
--- one that is idle or not
-pub activity-idle : (worker : Worker) {b : Bool} → isIdle (workerOf [] [] [] [] worker) ≡ b → activityOf worker ≡ cond b 0 1
-unfolding activityOf
-activity-idle worker e = ap (λ (b : Bool). cond b 0 1) e
-
--- one that has something in its input bag isn't
-pub filled-active : (left right : List ℕ) (worker : Worker) → isEmpty (nodesOf left right (worker .input .slots)) ≡ false → activityOf worker ≡ 1
-unfolding workerOf
-filled-active left right worker filled =
-    activity-idle worker
-    (ap (λ (b : Bool). isFree (phaseOf [] (worker .phase)) && b)
-    (held-empty [] [] [] (worker .input .slots) ∙ sym (empty-any left right (worker .input .slots)) ∙ filled) ∙ never (isFree (phaseOf [] (worker .phase))))
-  where
-    never : (b : Bool) → (b && false) ≡ false
-    never true = refl
-    never false = refl
-
--- nor is one that isn't free
-pub held-active : (worker : Worker) → (worker .phase ≡ Free → ⊥) → activityOf worker ≡ 1
-unfolding workerOf phaseOf isFree
-held-active worker held =
-    activity-idle worker (ap (λ (b : Bool). b && isEmpty (heldBy [] [] [] (worker .input .slots))) (go (worker .phase) held))
-  where
-    go : (p : Phase) → (p ≡ Free → ⊥) → isFree (phaseOf [] p) ≡ false
-    go Free h = absurd (h refl)
-    go (Holding u e f) h = refl
-    go (InHand u e f t) h = refl
-    go (Marked u e f t) h = refl
-    go (Named u e f t) h = refl
-
--- it is 1 at most
-pub activity-few : (worker : Worker) → activityOf worker ≤ 1
-unfolding activityOf
-activity-few worker = go (isIdle (workerOf [] [] [] [] worker))
-  where
-    go : (b : Bool) → cond b 0 1 ≤ 1
-    go true = omega arith
-    go false = omega arith
-
--- with all idle, none is not
+-- with all idle, none does
 pub idle-none : (offsets left right number : List ℕ) (crew : List Worker) → allIdle (workersOf offsets left right number crew) ≡ true
     → sumOf activityOf crew ≡ 0
 unfolding allIdle sumOf
 idle-none offsets left right number [] idle = refl
 idle-none offsets left right number (x ∷ crew) idle =
     let both = and-both (isIdle (workerOf offsets left right number x)) (allIdle (workersOf offsets left right number crew)) idle in
-    omega (arith, activity-idle x (sym (idle-any offsets left right number x) ∙ both .0), idle-none offsets left right number crew (both .1))
-  where
-    and-both : (a b : Bool) → (a && b) ≡ true → (a ≡ true) × (b ≡ true)
-    and-both true b e = (refl, e)
-    and-both false b e = absurd (true≢false (sym e))
+    omega (arith, held-none offsets (x .phase) (idle-phase offsets left right number x (both .0)), idle-none offsets left right number crew (both .1))
 
--- so with one that is not, not all are
+-- so with one that does, not all are
 pub idle-some : (offsets left right number : List ℕ) (crew : List Worker) → (sumOf activityOf crew ≡ 0 → ⊥)
     → allIdle (workersOf offsets left right number crew) ≡ false
 idle-some offsets left right number crew some = go (allIdle (workersOf offsets left right number crew)) refl
@@ -186,7 +159,7 @@ idle-some offsets left right number crew some = go (allIdle (workersOf offsets l
 pub activities-few : (crew : List Worker) → sumOf activityOf crew ≤ length crew
 unfolding sumOf
 activities-few [] = omega arith
-activities-few (x ∷ crew) = omega (arith, activity-few x, activities-few crew)
+activities-few (x ∷ crew) = omega (arith, held-few (x .phase), activities-few crew)
 
 module _ (crew : List Worker) (P : ℕ) (d : Worker) (there : P ≤ length crew) where
   -- with one replaced among the first P

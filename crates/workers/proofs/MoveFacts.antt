@@ -1,6 +1,6 @@
 -- One worker's moves as the table has them: the two with a bag, `begin` and `stow`, the three ways that a worker moves, and when it doesn't.
 use mathlib.Core.Path.{_≡_, refl, sym, ap, ap₂, _∙_, subst}
-use mathlib.Core.Bool.{Bool, true, false}
+use mathlib.Core.Bool.{true, false}
 use mathlib.Core.Logic.{_⊎_, inl, inr}
 use mathlib.Core.List.{List, [], _∷_}
 use mathlib.Core.Option.{none, some}
@@ -14,7 +14,6 @@ use Rattle.pennant.specs.Held.{copies}
 use Rattle.pennant.proofs.Laws.{taken-held}
 use Rattle.bag.specs.Nodes.{nodesOf, heldBy}
 use Rattle.bag.specs.Promises.{Pooled, Moved, Inserted, TakenFrom, uses, weighNodes}
-use Rattle.bag.specs.declared.Bag as bag
 use Rattle.bag.proofs.Family.{same-moved, pool-one, family-one, family-held-one}
 use Rattle.bag.proofs.HeldFacts.{held-empty}
 use Rattle.model.specs.Paths.{Labels}
@@ -73,17 +72,17 @@ same-apart worker phase left right number = record {
 
 module _ (worker : Worker) (left right number : List ℕ) (stocked : Stocked worker left right number) where
   -- the two bags of a worker
-  pub both-pooled : Pooled left right (worker .input .slots ∷ worker .output .slots ∷ [])
+  pub both-pooled : Pooled left right (worker .input ∷ worker .output ∷ [])
   unfolding bagsOf
   both-pooled = stocked .pool
 
   -- its input bag
-  pub input-pooled : Pooled left right (worker .input .slots ∷ [])
-  input-pooled = pool-one (worker .input .slots ∷ worker .output .slots ∷ []) 0 both-pooled (omega arith)
+  pub input-pooled : Pooled left right (worker .input ∷ [])
+  input-pooled = pool-one (worker .input ∷ worker .output ∷ []) 0 both-pooled (omega arith)
 
   -- its output bag
-  pub output-pooled : Pooled left right (worker .output .slots ∷ [])
-  output-pooled = pool-one (worker .input .slots ∷ worker .output .slots ∷ []) 1 both-pooled (omega arith)
+  pub output-pooled : Pooled left right (worker .output ∷ [])
+  output-pooled = pool-one (worker .input ∷ worker .output ∷ []) 1 both-pooled (omega arith)
 
 -- the number taken was held
 pub taken-below : (left right number slots left′ slots′ : List ℕ) (value : ℕ) → isEmpty (nodesOf left right slots) ≡ false
@@ -97,11 +96,11 @@ taken-below left right number slots left′ slots′ value filled taken =
 -- a free worker's move in the table
 free-move : (g : Graph) (layer : ℕ) (x : Labels) (offsets left right number : List ℕ) (worker : Worker) → worker .phase ≡ Free
     → moveOf g layer x (workerOf offsets left right number worker)
-    ≡ move g layer x (heldBy left right number (worker .input .slots)) (heldBy left right number (worker .output .slots)) model.free
+    ≡ move g layer x (heldBy left right number (worker .input)) (heldBy left right number (worker .output)) model.free
 unfolding workerOf phaseOf
 free-move g layer x offsets left right number worker free =
-    let input = heldBy left right number (worker .input .slots) in
-    let output = heldBy left right number (worker .output .slots) in
+    let input = heldBy left right number (worker .input) in
+    let output = heldBy left right number (worker .output) in
     ap (λ (p : Phase). move g layer x input output (phaseOf offsets p)) free
 
 -- no move with an empty bag
@@ -117,18 +116,18 @@ free-take g layer x input output filled = rw filled
 
 -- a free worker with an empty bag has no move
 pub begin-none : (g : Graph) (layer : ℕ) (x : Labels) (worker : Worker) (offsets left right number : List ℕ) → worker .phase ≡ Free
-    → isEmpty (nodesOf left right (worker .input .slots)) ≡ true
+    → isEmpty (nodesOf left right (worker .input)) ≡ true
     → moveOf g layer x (workerOf offsets left right number worker) ≡ none
 begin-none g layer x worker offsets left right number free empty =
     free-move g layer x offsets left right number worker free
-    ∙ free-none g layer x (heldBy left right number (worker .input .slots)) (heldBy left right number (worker .output .slots))
-    (held-empty left right number (worker .input .slots) ∙ empty)
+    ∙ free-none g layer x (heldBy left right number (worker .input)) (heldBy left right number (worker .output))
+    (held-empty left right number (worker .input) ∙ empty)
 
 -- a free worker takes a number and holds the vertex
-pub begin-taken : (worker : Worker) (offsets left right number left′ : List ℕ) (rest : bag.Bag) (value : ℕ) → worker .phase ≡ Free
+pub begin-taken : (worker : Worker) (offsets left right number left′ : List ℕ) (rest : List ℕ) (value : ℕ) → worker .phase ≡ Free
     → Stocked worker left right number
-    → isEmpty (nodesOf left right (worker .input .slots)) ≡ false
-    → TakenFrom left right number (worker .input .slots) left′ (rest .slots) value
+    → isEmpty (nodesOf left right (worker .input)) ≡ false
+    → TakenFrom left right number (worker .input) left′ rest value
     → value + 1 < length offsets
     → TookFrom worker offsets left right number left′
     (record { input = rest; output = worker .output; phase = holdFrom offsets value (getD offsets value 0) })
@@ -142,17 +141,17 @@ begin-taken worker offsets left right number left′ rest value free stocked fil
   phase-fits = λ targets n ground. hold-fits ground value (getD offsets value 0) (omega (arith, below, offsets-long ground)) (omega arith);
 }
   where
-    pool : Pooled left right (worker .input .slots ∷ worker .output .slots ∷ [])
+    pool : Pooled left right (worker .input ∷ worker .output ∷ [])
     pool = both-pooled worker left right number stocked
 
     input : Bag
-    input = heldBy left right number (worker .input .slots)
+    input = heldBy left right number (worker .input)
 
     output : Bag
-    output = heldBy left right number (worker .output .slots)
+    output = heldBy left right number (worker .output)
 
     -- the output bag holds what it held
-    output-same : heldBy left′ right number (worker .output .slots) ≡ output
+    output-same : heldBy left′ right number (worker .output) ≡ output
     output-same = first-held pool (taken .moved) number number (λ x h c. refl)
 
     -- the phase is the model's at the first edge of the number taken
@@ -166,20 +165,20 @@ begin-taken worker offsets left right number left′ rest value free stocked fil
     happens : (targets : List ℕ) (n : ℕ) → GraphRows offsets targets n → (layer : ℕ) (x : Labels)
         → moveOf (rowsOf offsets targets) layer x (workerOf offsets left right number worker)
         ≡ some (
-          model.workerWith (heldBy left′ right number (rest .slots)) (heldBy left′ right number (worker .output .slots))
+          model.workerWith (heldBy left′ right number rest) (heldBy left′ right number (worker .output))
               (phaseOf offsets (holdFrom offsets value (getD offsets value 0))),
           x,
         )
     happens targets n ground layer x =
         free-move (rowsOf offsets targets) layer x offsets left right number worker free
-        ∙ free-take (rowsOf offsets targets) layer x input output (held-empty left right number (worker .input .slots) ∙ filled)
+        ∙ free-take (rowsOf offsets targets) layer x input output (held-empty left right number (worker .input) ∙ filled)
         ∙ sym (rw (taken .held, output-same, phase-same targets n ground))
 
 -- the same for a phase that is found to be that one
-pub begin-held : (worker : Worker) (offsets left right number left′ : List ℕ) (rest : bag.Bag) (value first : ℕ) (phase : Phase) → worker .phase ≡ Free
+pub begin-held : (worker : Worker) (offsets left right number left′ : List ℕ) (rest : List ℕ) (value first : ℕ) (phase : Phase) → worker .phase ≡ Free
     → Stocked worker left right number
-    → isEmpty (nodesOf left right (worker .input .slots)) ≡ false
-    → TakenFrom left right number (worker .input .slots) left′ (rest .slots) value
+    → isEmpty (nodesOf left right (worker .input)) ≡ false
+    → TakenFrom left right number (worker .input) left′ rest value
     → value + 1 < length offsets
     → first ≡ getD offsets value 0
     → phase ≡ holdFrom offsets value first
@@ -195,20 +194,20 @@ begin-held worker offsets left right number left′ rest value first phase free 
 named-move : (g : Graph) (layer : ℕ) (x : Labels) (offsets left right number : List ℕ) (worker : Worker) (u e f t : ℕ) → worker .phase ≡ Named u e f t
     → moveOf g layer x (workerOf offsets left right number worker)
     ≡ some (
-      model.workerWith (heldBy left right number (worker .input .slots)) (bagInsert t (heldBy left right number (worker .output .slots)))
+      model.workerWith (heldBy left right number (worker .input)) (bagInsert t (heldBy left right number (worker .output)))
           (holdAt g u (suc (e - getD offsets u 0))),
       x,
     )
 unfolding workerOf phaseOf move
 named-move g layer x offsets left right number worker u e f t named =
-    let input = heldBy left right number (worker .input .slots) in
-    let output = heldBy left right number (worker .output .slots) in
+    let input = heldBy left right number (worker .input) in
+    let output = heldBy left right number (worker .output) in
     ap (λ (p : Phase). move g layer x input output (phaseOf offsets p)) named
 
 -- a worker that has named its target inserts it and passes on
-pub stow-made : (worker : Worker) (u e f t : ℕ) (offsets left right number left′ right′ number′ : List ℕ) (output : bag.Bag) → worker .phase ≡ Named u e f t
+pub stow-made : (worker : Worker) (u e f t : ℕ) (offsets left right number left′ right′ number′ : List ℕ) (output : List ℕ) → worker .phase ≡ Named u e f t
     → Stocked worker left right number
-    → Inserted left right number (worker .output .slots) t left′ right′ number′ (output .slots)
+    → Inserted left right number (worker .output) t left′ right′ number′ output
     → StowedInto worker offsets left right number left′ right′ number′ (record { input = worker .input; output = output; phase = holdFrom offsets u (e + 1) })
 unfolding bagsOf workerOf
 stow-made worker u e f t offsets left right number left′ right′ number′ output named stocked inserted = record {
@@ -217,12 +216,12 @@ stow-made worker u e f t offsets left right number left′ right′ number′ ou
       ∙ sym (rw (input-same, inserted .held, pass-shown ground (edge n fits)));
   apart = record {
     moved = second-moved pool (inserted .moved);
-    kept-number = λ x h c. inserted .kept-number x h (unused-second left right (worker .input .slots) (worker .output .slots) x c);
+    kept-number = λ x h c. inserted .kept-number x h (unused-second left right (worker .input) (worker .output) x c);
   };
   phase-fits = λ targets n ground fits. pass-fits ground (edge n fits);
 }
   where
-    pool : Pooled left right (worker .input .slots ∷ worker .output .slots ∷ [])
+    pool : Pooled left right (worker .input ∷ worker .output ∷ [])
     pool = both-pooled worker left right number stocked
 
     -- its edge is one of u
@@ -230,14 +229,14 @@ stow-made worker u e f t offsets left right number left′ right′ number′ ou
     edge n fits = subst (λ (p : Phase). Fits offsets n p) named fits .0
 
     -- the input bag holds what it held
-    input-same : heldBy left′ right′ number′ (worker .input .slots) ≡ heldBy left right number (worker .input .slots)
+    input-same : heldBy left′ right′ number′ (worker .input) ≡ heldBy left right number (worker .input)
     input-same = second-held pool (inserted .moved) number number′ (inserted .kept-number)
 
 -- the same for a phase that is found to be the next one
-pub stow-held : (worker : Worker) (u e f t : ℕ) (offsets left right number left′ right′ number′ : List ℕ) (output : bag.Bag) (phase : Phase)
+pub stow-held : (worker : Worker) (u e f t : ℕ) (offsets left right number left′ right′ number′ : List ℕ) (output : List ℕ) (phase : Phase)
     → worker .phase ≡ Named u e f t
     → Stocked worker left right number
-    → Inserted left right number (worker .output .slots) t left′ right′ number′ (output .slots)
+    → Inserted left right number (worker .output) t left′ right′ number′ output
     → phase ≡ holdFrom offsets u (e + 1)
     → StowedInto worker offsets left right number left′ right′ number′ (record { input = worker .input; output = output; phase = phase })
 stow-held worker u e f t offsets left right number left′ right′ number′ output phase named stocked inserted held =
@@ -283,7 +282,7 @@ not-between targets n is never h = absurd (never (subst (Between targets n) is h
 module _ {worker : Worker} {layer : ℕ} {offsets targets distances parents left right number : List ℕ}
     (workable : Workable worker layer offsets targets distances parents left right number) where
   -- what a free worker may take
-  pub work-input : (v : ℕ) → 1 ≤ copies v (heldBy left right number (worker .input .slots)) → v + 1 < length offsets
+  pub work-input : (v : ℕ) → 1 ≤ copies v (heldBy left right number (worker .input)) → v + 1 < length offsets
   work-input v h = omega (arith, workable .input-below v h, offsets-long (workable .rows))
 
   -- a free worker's move
@@ -311,7 +310,7 @@ module _ {worker : Worker} {layer : ℕ} {offsets targets distances parents left
       (record { input = worker .input; output = worker .output; phase = phase′ })
   unfolding workerOf
   work-advanced {phase′ = phase′} advanced = record {
-    made = advanced .made (heldBy left right number (worker .input .slots)) (heldBy left right number (worker .output .slots));
+    made = advanced .made (heldBy left right number (worker .input)) (heldBy left right number (worker .output));
     apart = same-apart worker phase′ left right number;
     phase-fits = advanced .phase-fits;
   }

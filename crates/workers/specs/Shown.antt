@@ -4,7 +4,6 @@ use mathlib.Core.List.{List, [], _∷_, map}
 use Prim.Native.Nat.{ℕ, _-_}
 use lib.ListN.{getD}
 use Rattle.bag.specs.Nodes.{heldBy}
-use Rattle.bag.specs.declared.Bag as bag
 use Rattle.model.specs.State as model
 use Rattle.model.specs.Words.{labelsOf}
 use Rattle.workers.specs.declared.Phase.{Phase}
@@ -12,24 +11,20 @@ use Rattle.workers.specs.declared.Phase.the-variants.{Free, Holding, InH
 
 -- a worker: its input bag, its output bag and its phase
 pub record Worker : Type 0 where
-  pub input : bag.Bag
-  pub output : bag.Bag
+  pub input : List ℕ
+  pub output : List ℕ
   pub phase : Phase
 
 -- by its three parts
-abbrev pub workerFrom : bag.Bag → bag.Bag → Phase → Worker
+abbrev pub workerFrom : List ℕ → List ℕ → Phase → Worker
 workerFrom input output phase = record { input = input; output = output; phase = phase }
 
 -- all workers: their input bags, output bags and phases stand in three lists
-unfoldable pub crewOf : List bag.Bag → List bag.Bag → List Phase → List Worker
+unfoldable pub crewOf : List (List ℕ) → List (List ℕ) → List Phase → List Worker
 crewOf [] outputs phases = []
 crewOf (a ∷ inputs) [] phases = []
 crewOf (a ∷ inputs) (b ∷ outputs) [] = []
 crewOf (a ∷ inputs) (b ∷ outputs) (p ∷ phases) = workerFrom a b p ∷ crewOf inputs outputs phases
-
--- a bag's slots
-abbrev pub slotsOf : bag.Bag → List ℕ
-slotsOf b = b .slots
 
 -- the phase that an engine's phase stands for: the engine counts edges through all rows, the model from the start of u's row
 unfoldable pub phaseOf : List ℕ → Phase → model.Phase
@@ -42,7 +37,7 @@ phaseOf offsets (Named u e f t) = model.named u (e - getD offsets u 0) t
 -- the worker that an engine's worker stands for: the numbers that its bags hold, and its phase
 unfoldable pub workerOf : List ℕ → List ℕ → List ℕ → List ℕ → Worker → model.Worker
 workerOf offsets left right number w =
-    model.workerWith (heldBy left right number (w .input .slots)) (heldBy left right number (w .output .slots)) (phaseOf offsets (w .phase))
+    model.workerWith (heldBy left right number (w .input)) (heldBy left right number (w .output)) (phaseOf offsets (w .phase))
 
 -- the workers
 abbrev pub workersOf : List ℕ → List ℕ → List ℕ → List ℕ → List Worker → List model.Worker
@@ -60,4 +55,4 @@ stateOf offsets distances parents left right number crew layer = record {
 -- the slots of all bags, each worker's input before its output
 unfoldable pub bagsOf : List Worker → List (List ℕ)
 bagsOf [] = []
-bagsOf (w ∷ crew) = w .input .slots ∷ w .output .slots ∷ bagsOf crew
+bagsOf (w ∷ crew) = w .input ∷ w .output ∷ bagsOf crew

@@ -10,14 +10,13 @@ use lib.ListN.{length, getD, replicate, set}
 use Rattle.numbers.specs.Numbers.{maxWorkers, unset}
 use Rattle.graph.specs.Graph.{rowsOf}
 use Rattle.graph.specs.Steps.{GraphRows}
-use Rattle.pennant.specs.Bag.{Bag, bagUnion}
+use Rattle.pennant.specs.Bag.{Bag, slotCount, bagUnion}
 use Rattle.pennant.specs.Held.{copies}
 use Rattle.bag.specs.Nodes.{heldBy, emptySlots}
 use Rattle.bag.specs.Promises.{Pooled, Moved, uses}
-use Rattle.bag.specs.declared.Bag as bag
 use Rattle.schedule.specs.declared.Event.the-variants.{Split, Unite}
 use Rattle.model.specs.State as model
-use Rattle.model.specs.Table.{move, moveOf, isIdle, allIdle, unitedOutputs, act}
+use Rattle.model.specs.Table.{move, moveOf, allIdle, unitedOutputs, act}
 use Rattle.workers.specs.declared.Phase.{Phase}
 use Rattle.workers.specs.declared.Phase.the-variants.{Free, Holding, InHand, Marked, Named}
 use Rattle.model.specs.Words.{labelsOf}
@@ -106,7 +105,7 @@ pub record Workable (worker : Worker) (layer : ℕ) (offsets targets distances p
   pub phase-fits : Fits offsets (length distances) (worker .phase)
   pub stocked : Stocked worker left right number
   -- the numbers in its input bag are vertices
-  pub input-below : (v : ℕ) → 1 ≤ copies v (heldBy left right number (worker .input .slots)) → v < length distances
+  pub input-below : (v : ℕ) → 1 ≤ copies v (heldBy left right number (worker .input)) → v < length distances
   -- a node is free for what it is about to insert
   pub room : (u e f t : ℕ) → worker .phase ≡ Named u e f t → getD left 0 0 ≡ 0 → ⊥
 
@@ -121,10 +120,10 @@ pub record Worked (worker : Worker) (layer : ℕ)
 -- Two workers.
 
 -- the worker with another bag
-abbrev pub withInput : Worker → bag.Bag → Worker
+abbrev pub withInput : Worker → List ℕ → Worker
 withInput w b = workerFrom b (w .output) (w .phase)
 
-abbrev pub withOutput : Worker → bag.Bag → Worker
+abbrev pub withOutput : Worker → List ℕ → Worker
 withOutput w b = workerFrom (w .input) b (w .phase)
 
 -- a state of two workers alone
@@ -158,7 +157,7 @@ pub record Exchanged (rule : model.Worker → model.Worker → Option (model.Wor
 
 -- input bags that are empty, slot by slot
 abbrev pub NoInputs : List Worker → Type 0
-NoInputs crew = (d : Worker) (w : ℕ) → w < length crew → getD crew w d .input .slots ≡ emptySlots
+NoInputs crew = (d : Worker) (w : ℕ) → w < length crew → getD crew w d .input ≡ emptySlots
 
 -- what gathering takes for granted
 pub record Gatherable (crew : List Worker) (left right : List ℕ) : Type 0 where
@@ -176,22 +175,37 @@ pub record GatheredBags (first : List ℕ) (bags : List (List ℕ)) (left right 
   pub united : (number : List ℕ) → heldBy left′ right′ number slots ≡ foldl bagUnion (heldBy left right number first) (map (heldBy left right number) bags)
   pub moved : Moved left right (first ∷ bags) left′ right′ (slots ∷ [])
 
--- 1 for a worker that isn't idle: whether it is depends on no list
-unfoldable pub activityOf : Worker → ℕ
-activityOf worker = cond (isIdle (workerOf [] [] [] [] worker)) 0 1
+-- 1 for a phase that holds a vertex
+unfoldable pub heldOf : Phase → ℕ
+heldOf Free = 0
+heldOf (Holding u e f) = 1
+heldOf (InHand u e f t) = 1
+heldOf (Marked u e f t) = 1
+heldOf (Named u e f t) = 1
 
--- an empty bag
-abbrev pub emptyBagOf : bag.Bag
-emptyBagOf = record { slots = emptySlots }
+-- 1 for a worker that holds one
+abbrev pub activityOf : Worker → ℕ
+activityOf w = heldOf (w .phase)
+
+-- eight bags of 16 slots
+pub record Full (bags : List (List ℕ)) : Type 0 where
+  pub eight : length bags ≡ maxWorkers
+  pub slots : (w : ℕ) → w < maxWorkers → length (getD bags w []) ≡ slotCount
+
+-- eight workers' output bags and phases, of which the first P are free
+pub record Unheld (P : ℕ) (outputs : List (List ℕ)) (phases : List Phase) : Type 0 where
+  pub outputs-long : length outputs ≡ maxWorkers
+  pub phases-long : length phases ≡ maxWorkers
+  pub free : (w : ℕ) → w < P → getD phases w Free ≡ Free
 
 -- a worker with nothing to do
 abbrev pub idleOne : Worker
-idleOne = workerFrom emptyBagOf emptyBagOf Free
+idleOne = workerFrom emptySlots emptySlots Free
 
 -- all workers' phases, free
 abbrev pub allFree : List Phase
 allFree = replicate maxWorkers Free
 
 -- all workers as a layer opens, with this bag as worker 0's input bag
-abbrev pub openedCrew : bag.Bag → List Worker
+abbrev pub openedCrew : List ℕ → List Worker
 openedCrew b = set (replicate maxWorkers idleOne) 0 (withInput idleOne b)

@@ -2,18 +2,16 @@
 // do at a close. All workers' input bags, output bags and phases stand in three arrays, so that an
 // event stores what it changes and nothing else. These are inner steps: they may assume what their
 // callers prove.
-use bag::Bag;
-
 mod crew;
 mod moves;
 
-pub use crew::activity;
+pub use crew::all_empty;
 pub use crew::all_free;
-pub use crew::all_idle;
 pub use crew::can_split;
 pub use crew::can_unite;
 pub use crew::first_of_eight;
 pub use crew::gather;
+pub use crew::held;
 pub use moves::advance;
 pub use moves::begin;
 pub use moves::stow;
@@ -45,16 +43,4 @@ pub enum Phase {
         end: usize,
         target: u16,
     },
-}
-
-// What is left in the input bag of a worker that has taken from it, and the worker's phase.
-pub struct Begun {
-    pub input: Bag,
-    pub phase: Phase,
-}
-
-// The output bag of a worker that has stowed its target, and the worker's phase.
-pub struct Stowed {
-    pub output: Bag,
-    pub phase: Phase,
 }

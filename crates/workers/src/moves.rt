@@ -5,17 +5,13 @@ ghost use mathlib.Core.List.{List, [], _∷_};
 ghost use Prim.Native.Nat.{ℕ, _+_, _≤_, _<_};
 ghost use lib.ListN.{length, getD};
 ghost use Rattle.pennant.specs.Held.{copies};
-ghost use Rattle.pennant.specs.Bag.{isEmpty};
+ghost use Rattle.pennant.specs.Bag.{isEmpty, slotCount};
 ghost use Rattle.bag.specs.Nodes.{nodesOf, heldBy};
 ghost use Rattle.bag.specs.Promises.{Pooled};
-ghost use Rattle.bag.specs.declared.Bag as declared;
 ghost use Rattle.graph.specs.Steps.{GraphRows};
 ghost use Rattle.workers.specs.Shown.{workerFrom};
 ghost use Rattle.workers.specs.Steps.{Fits, holdFrom, lookAt, Between, Advanced, Stocked, TookFrom, StowedInto};
-use crate::Begun;
 use crate::Phase;
-use crate::Stowed;
-use bag::Bag;
 use graph::words::element;
 use graph::words::wide16;
 use lists::at;
@@ -108,34 +104,37 @@ pub fn advance(
     }
 }
 
-// "Free: it takes from its input bag, if that isn't empty": of a bag that isn't.
-pub fn begin(input: Bag, offsets: &[u16], left: &mut [u16], right: &[u16], number: &[u16]) -> Begun
-    requires { ⌜ Pooled (now left) (now right) (input .slots ∷ []) ⌝ }
+// "Free: it takes from its input bag, if that isn't empty": of a bag that isn't. Gives the phase.
+pub fn begin(
+    input: &mut [u16; 16],
+    offsets: &[u16],
+    left: &mut [u16],
+    right: &[u16],
+    number: &[u16],
+) -> Phase
+    requires { ⌜ Pooled (now left) (now right) (now input ∷ []) ⌝ }
     requires { ⌜ length (now left) ≤ length (now number) ⌝ }
-    requires { ⌜ isEmpty (nodesOf (now left) (now right) (input .slots)) ≡ false ⌝ }
-    requires { ⌜ ((v : ℕ) → 1 ≤ copies v (heldBy (now left) (now right) (now number) (input .slots)) → v + 1 < length (now offsets)) ⌝ }
+    requires { ⌜ isEmpty (nodesOf (now left) (now right) (now input)) ≡ false ⌝ }
+    requires { ⌜ ((v : ℕ) → 1 ≤ copies v (heldBy (now left) (now right) (now number) (now input)) → v + 1 < length (now offsets)) ⌝ }
+    requires { ⌜ length (now input) ≡ slotCount ⌝ }
     ensures { λ r. ⌜
-        ((output : declared.Bag) → Stocked (workerFrom input output Phase.Free) (now (left .entry)) (now (right .entry)) (now (number .entry))
-        → TookFrom (workerFrom input output Phase.Free) (now (offsets .entry)) (now (left .entry)) (now (right .entry)) (now (number .entry)) (now (left .exit))
-        (workerFrom (r .input) output (r .phase)))
+        ((output : List ℕ) → Stocked (workerFrom (now (input .entry)) output Phase.Free) (now (left .entry)) (now (right .entry)) (now (number .entry))
+        → TookFrom (workerFrom (now (input .entry)) output Phase.Free) (now (offsets .entry)) (now (left .entry)) (now (right .entry)) (now (number .entry)) (now (left .exit))
+        (workerFrom (now (input .exit)) output r))
         ⌝ }
+    ensures { λ _. ⌜ length (now (input .exit)) ≡ slotCount ⌝ }
 {
-    let taken = bag::take(input, left, right, number);
-    let rest = taken.bag;
-    let vertex = taken.number;
-    Begun {
-        input: rest,
-        phase: hold(
-            vertex,
-            wide16(at(offsets, vertex)),
-            element(offsets, wide16(vertex) + 1),
-        ),
-    }
+    let vertex = bag::take_from(input, left, right, number);
+    hold(
+        vertex,
+        wide16(at(offsets, vertex)),
+        element(offsets, wide16(vertex) + 1),
+    )
 }
 
-// "stow (insert t into its output bag, pass on)".
+// "stow (insert t into its output bag, pass on)". Gives the phase.
 pub fn stow(
-    output: Bag,
+    output: &mut [u16; 16],
     vertex: u16,
     edge: usize,
     end: usize,
@@ -143,20 +142,20 @@ pub fn stow(
     left: &mut [u16],
     right: &mut [u16],
     number: &mut [u16],
-) -> Stowed
+) -> Phase
     requires { ⌜ edge + 1 < 65536 ⌝ }
-    requires { ⌜ Pooled (now left) (now right) (output .slots ∷ []) ⌝ }
+    requires { ⌜ Pooled (now left) (now right) (now output ∷ []) ⌝ }
     requires { ⌜ length (now left) ≤ length (now number) ⌝ }
     requires { ⌜ (getD (now left) 0 0 ≡ 0 → ⊥) ⌝ }
+    requires { ⌜ length (now output) ≡ slotCount ⌝ }
     ensures { λ r. ⌜
-        ((input : declared.Bag) (offsets : List ℕ) → end ≡ getD offsets (vertex + 1) 0
-        → Stocked (workerFrom input output (Phase.Named vertex edge end target)) (now (left .entry)) (now (right .entry)) (now (number .entry))
-        → StowedInto (workerFrom input output (Phase.Named vertex edge end target)) offsets (now (left .entry)) (now (right .entry)) (now (number .entry))
-        (now (left .exit)) (now (right .exit)) (now (number .exit)) (workerFrom input (r .output) (r .phase)))
+        ((input : List ℕ) (offsets : List ℕ) → end ≡ getD offsets (vertex + 1) 0
+        → Stocked (workerFrom input (now (output .entry)) (Phase.Named vertex edge end target)) (now (left .entry)) (now (right .entry)) (now (number .entry))
+        → StowedInto (workerFrom input (now (output .entry)) (Phase.Named vertex edge end target)) offsets (now (left .entry)) (now (right .entry)) (now (number .entry))
+        (now (left .exit)) (now (right .exit)) (now (number .exit)) (workerFrom input (now (output .exit)) r))
         ⌝ }
+    ensures { λ _. ⌜ length (now (output .exit)) ≡ slotCount ⌝ }
 {
-    Stowed {
-        output: bag::insert(output, target, left, right, number),
-        phase: hold(vertex, edge + 1, end),
-    }
+    bag::insert_into(output, target, left, right, number);
+    hold(vertex, edge + 1, end)
 }

@@ -1,5 +1,5 @@
 -- `engine::run::run` meets its contract. The invariant: the engine's values are those of the model's run over the bytes so far, the count of workers
--- that are not idle is right, and the lists have the lengths they had. The measure is the bytes that are left.
+-- that hold a vertex is right, and the lists have the lengths they had. The measure is the bytes that are left.
 use borrow.Author.Needs.{needs}
 use borrow.Author.Tests.{not-true, not-false}
 use native.Mathlib.Omega.{arith}
@@ -9,36 +9,36 @@ use mathlib.Core.List.{List}
 use Prim.Native.Nat.{ℕ, _-_, _<_}
 use lib.ListN.{length, take, getD}
 use denote.Enum.Declared.{tagOf}
-use Rattle.pennant.specs.Bag.{isEmpty}
+use Rattle.pennant.specs.Bag.{slotCount, isEmpty}
 use Rattle.bag.specs.Nodes.{nodesOf}
 use Rattle.schedule.specs.declared.Event.{Event}
 use Rattle.schedule.specs.declared.Event.the-variants.{Work, Split, Unite, Close}
 use Rattle.model.specs.Table.{allIdle}
 use Rattle.workers.specs.declared.Phase.the-variants.{Free}
 use Rattle.workers.specs.Shown.{crewOf, workersOf}
-use Rattle.workers.specs.Steps.{Between, emptyBagOf}
+use Rattle.workers.specs.Steps.{Between, Unheld}
 use Rattle.workers.proofs.Phase.{the-type}
 use Rattle.workers.proofs.PartsFacts.{pastBag, firstOfEight, opened-as}
 use Rattle.engine.proofs.PlayingFacts.{SameLengths, same-all, same-then, same-start, same-left, same-labels, same-nodes, same-links, Turn, placed, layer-fits}
 use Rattle.engine.proofs.PlayingFacts.{used-fits, staffed, effective-fits}
 use Rattle.engine.proofs.StartFacts.{source-there, start-on}
 use Rattle.engine.proofs.CloseFacts.{spent-ran}
-use Rattle.engine.proofs.BusyFacts.{busy-few, manned-opened}
-use Rattle.engine.proofs.EventFacts.{Going, begin-able, rest-on, filled-some, begun-on, held-some, named-held, stow-able, stowed-on, between-now, between-held}
+use Rattle.engine.proofs.BusyFacts.{busy-few, none-held, manned-opened}
+use Rattle.engine.proofs.EventFacts.{Going, begin-able, rest-on, begun-on, held-some, named-held, stow-able, stowed-on, between-now, between-held}
 use Rattle.engine.proofs.EventFacts.{advance-able, advanced-on, split-able, split-unmet-on, split-on, unite-able, unite-unmet-on, unite-on}
 use Rattle.engine.proofs.EventFacts.{busy-on, busy-told, gather-pooled, opened-on, finished-ran, strange-on}
 use Rattle.engine.proofs.run.run.Statement.{statement}
 use Rattle.engine.proofs.run.run.Tie as tie
 
 abbrev Inv-loop : tie.InvT-loop
-Inv-loop source workers schedule offsets targets distances₀ parents₀ left₀ right₀ number₀ busy₀ inputs₀ outputs₀ phases₀ used₀ effective₀ layer₀
-    distances parents left right number busy inputs outputs phases used effective layer =
+Inv-loop source workers schedule offsets targets distances₀ parents₀ left₀ right₀ number₀ inputs₀ outputs₀ phases₀ busy₀ used₀ effective₀ layer₀
+    distances parents left right number inputs outputs phases busy used effective layer =
     Going source workers schedule offsets targets distances parents left right number inputs outputs phases busy used effective layer
     × SameLengths distances₀ parents₀ left₀ right₀ number₀ distances parents left right number
 
 abbrev μ-loop : tie.MeasureT-loop
-μ-loop source workers schedule offsets targets distances₀ parents₀ left₀ right₀ number₀ busy₀ inputs₀ outputs₀ phases₀ used₀ effective₀ layer₀
-    distances parents left right number busy inputs outputs phases used effective layer =
+μ-loop source workers schedule offsets targets distances₀ parents₀ left₀ right₀ number₀ inputs₀ outputs₀ phases₀ busy₀ used₀ effective₀ layer₀
+    distances parents left right number inputs outputs phases busy used effective layer =
     length schedule - used
 
 -- Places that the needs look back to.
@@ -49,7 +49,7 @@ start c = c .before .before .before .before .before .before .before .before .bef
 
 -- the call of `open`, from the loop
 abbrev opening : tie.After-all-free Inv-loop μ-loop → tie.After-open Inv-loop μ-loop
-opening c = c .before .before .before .before .before .before .before .before .before .before .before .before .before .before .before
+opening c = c .before .before .before .before .before .before .before .before .before .before .before .before .before .before
 
 -- the loop's head, from a decoded byte
 abbrev head : tie.After-decode Inv-loop μ-loop → tie.At-loop Inv-loop μ-loop
@@ -119,11 +119,11 @@ unite-places c = (placed (unite-turn c .playing) (staffed (unite-turn c) .0), pl
 
 -- the worker's input bag is empty, or not
 rested : (c : tie.Else1 Inv-loop μ-loop) → let now = c .before .before .before .before .before .before .before .before .before .before .before .before .loop in
-    isEmpty (nodesOf (now .left) (now .right) (getD (now .inputs) (c .before .before .before .before .before .before .before .event .given .0 .0) pastBag .slots)) ≡ true
+    isEmpty (nodesOf (now .left) (now .right) (getD (now .inputs) (c .before .before .before .before .before .before .before .event .given .0 .0) pastBag)) ≡ true
 rested c = sym (c .before .is-empty .ensures _ _) ∙ not-false _ (c .if1 .left)
 
 filled : (c : tie.Then1 Inv-loop μ-loop) → let now = c .before .before .before .before .before .before .before .before .before .before .before .before .loop in
-    isEmpty (nodesOf (now .left) (now .right) (getD (now .inputs) (c .before .before .before .before .before .before .before .event .given .0 .0) pastBag .slots)) ≡ false
+    isEmpty (nodesOf (now .left) (now .right) (getD (now .inputs) (c .before .before .before .before .before .before .before .event .given .0 .0) pastBag)) ≡ false
 filled c = sym (c .before .is-empty .ensures _ _) ∙ not-true _ (c .if1 .taken)
 
 -- the phase is one between
@@ -133,21 +133,26 @@ between c =
     between-now (c .before .before .before .before .before .before .before .before .before .loop .inv .0 .manned) (work-turn (c .before .before .before .before)) (tagOf the-type) refl
     (λ u e f t. refl) (c .before .match2 .keys2) (c .match3 .keys2)
 
+-- no worker holds a vertex where none is counted
+unheld-there : (c : tie.Then4 Inv-loop μ-loop) → let at = c .before .before .before .before .before .before in
+    Unheld (start-of at .args .workers) (at .loop .outputs) (at .loop .phases)
+unheld-there c = none-held (close-turn (c .before) .playing .ready .accepted .few-workers) (c .before .before .before .before .before .before .loop .inv .0 .manned) (c .if4 .taken)
+
 -- the workers were found idle before they gathered
-idle-told : (c : tie.Then5 Inv-loop μ-loop) → let at = c .before .before .before .before .before .before .before .before in
+idle-told : (c : tie.Then5 Inv-loop μ-loop) → let at = c .before .before .before .before .before .before .before .before .before in
     let now = at .loop in
     (offsets number : List ℕ) → allIdle (workersOf offsets (now .left) (now .right) number (take (start-of at .args .workers) (crewOf (now .inputs) (now .outputs) (now .phases)))) ≡ true
 idle-told c offsets number =
-    let at = c .before .before .before .before .before .before .before .before in
-    sym (c .before .all-idle .ensures .0 (at .loop .outputs) (at .loop .inv .0 .manned .even .outputs-long) offsets _ _ number) ∙ c .if5 .taken
+    let at = c .before .before .before .before .before .before .before .before .before in
+    sym (c .before .all-empty .ensures .0 (at .loop .outputs) (at .loop .phases) (unheld-there (c .before .before .before)) offsets _ _ number) ∙ c .if5 .taken
 
 -- Further ones, named by what is there and where from.
 
 abbrev start-of-open-arg5 : tie.After-open-arg5 Inv-loop μ-loop → tie.Start Inv-loop μ-loop
 start-of-open-arg5 c = c .before .before .before .before .before .before .before .before .before .before .before .before .before
 
-abbrev activity-of-all-free : tie.After-all-free Inv-loop μ-loop → tie.After-activity Inv-loop μ-loop
-activity-of-all-free c = c .before .before .before .before
+abbrev open-of-all-free : tie.After-all-free Inv-loop μ-loop → tie.After-open Inv-loop μ-loop
+open-of-all-free c = c .before .before .before .before .before .before .before .before .before .before .before .before .before .before
 
 abbrev event-of-enum-told : tie.After-enum-told Inv-loop μ-loop → tie.After-event Inv-loop μ-loop
 event-of-enum-told c = c .before .before .before .before
@@ -155,209 +160,191 @@ event-of-enum-told c = c .before .before .before .before
 abbrev event-of-taken1 : tie.Then1 Inv-loop μ-loop → tie.After-event Inv-loop μ-loop
 event-of-taken1 c = c .before .before .before .before .before .before .before
 
-abbrev taken1-of-begin-arg4 : tie.After-begin-arg4 Inv-loop μ-loop → tie.Then1 Inv-loop μ-loop
-taken1-of-begin-arg4 c = c .before .before .before .before
+abbrev loop-of-begin-arg4 : tie.After-begin-arg4 Inv-loop μ-loop → tie.At-loop Inv-loop μ-loop
+loop-of-begin-arg4 c = c .before .before .before .before .before .before .before .before .before .before .before .before .before .before .before .before
 
 abbrev event-of-begin-arg4 : tie.After-begin-arg4 Inv-loop μ-loop → tie.After-event Inv-loop μ-loop
 event-of-begin-arg4 c = c .before .before .before .before .before .before .before .before .before .before .before
 
-abbrev loop-of-begin-arg4 : tie.After-begin-arg4 Inv-loop μ-loop → tie.At-loop Inv-loop μ-loop
-loop-of-begin-arg4 c = c .before .before .before .before .before .before .before .before .before .before .before .before .before .before .before .before
+abbrev taken1-of-begin-arg4 : tie.After-begin-arg4 Inv-loop μ-loop → tie.Then1 Inv-loop μ-loop
+taken1-of-begin-arg4 c = c .before .before .before .before
 
-abbrev event-of-rest : tie.After-rest Inv-loop μ-loop → tie.After-event Inv-loop μ-loop
-event-of-rest c = c .before .before .before .before .before .before .before .before .before .before .before .before .before .before .before
+abbrev event-of-slice-known11 : tie.After-slice-known11 Inv-loop μ-loop → tie.After-event Inv-loop μ-loop
+event-of-slice-known11 c = c .before .before .before .before .before .before .before .before .before .before .before .before .before .before
 
-abbrev begin-of-activity2 : tie.After-activity2 Inv-loop μ-loop → tie.After-begin Inv-loop μ-loop
-begin-of-activity2 c = c .before .before .before .before
+abbrev event-of-held : tie.After-held Inv-loop μ-loop → tie.After-event Inv-loop μ-loop
+event-of-held c = c .before .before .before .before .before .before .before .before .before .before .before .before .before .before .before
 
-abbrev taken1-of-activity2 : tie.After-activity2 Inv-loop μ-loop → tie.Then1 Inv-loop μ-loop
-taken1-of-activity2 c = c .before .before .before .before .before .before .before .before .before
+abbrev loop-of-held : tie.After-held Inv-loop μ-loop → tie.At-loop Inv-loop μ-loop
+loop-of-held c = c .before .before .before .before .before .before .before .before .before .before .before .before .before .before .before .before .before .before .before .before
 
-abbrev enum-told-of-activity2 : tie.After-activity2 Inv-loop μ-loop → tie.After-enum-told Inv-loop μ-loop
-enum-told-of-activity2 c = c .before .before .before .before .before .before .before .before .before .before .before .before
-
-abbrev event-of-activity2 : tie.After-activity2 Inv-loop μ-loop → tie.After-event Inv-loop μ-loop
-event-of-activity2 c = c .before .before .before .before .before .before .before .before .before .before .before .before .before .before .before .before
-
-abbrev loop-of-activity2 : tie.After-activity2 Inv-loop μ-loop → tie.At-loop Inv-loop μ-loop
-loop-of-activity2 c = c .before .before .before .before .before .before .before .before .before .before .before .before .before .before .before .before .before .before .before .before .before
-
-abbrev event-of-left1 : tie.Else1 Inv-loop μ-loop → tie.After-event Inv-loop μ-loop
-event-of-left1 c = c .before .before .before .before .before .before .before
+abbrev enum-told-of-held : tie.After-held Inv-loop μ-loop → tie.After-enum-told Inv-loop μ-loop
+enum-told-of-held c = c .before .before .before .before .before .before .before .before .before .before .before
 
 abbrev loop-of-left1 : tie.Else1 Inv-loop μ-loop → tie.At-loop Inv-loop μ-loop
 loop-of-left1 c = c .before .before .before .before .before .before .before .before .before .before .before .before
 
+abbrev event-of-left1 : tie.Else1 Inv-loop μ-loop → tie.After-event Inv-loop μ-loop
+event-of-left1 c = c .before .before .before .before .before .before .before
+
 abbrev event-of-known-told2 : tie.After-known-told2 Inv-loop μ-loop → tie.After-event Inv-loop μ-loop
 event-of-known-told2 c = c .before .before .before .before .before .before
-
-abbrev phase2-of-stow-arg4 : tie.After-stow-arg4 Inv-loop μ-loop → tie.After-phase2 Inv-loop μ-loop
-phase2-of-stow-arg4 c = c .before .before .before .before .before
-
-abbrev event-of-stow-arg4 : tie.After-stow-arg4 Inv-loop μ-loop → tie.After-event Inv-loop μ-loop
-event-of-stow-arg4 c = c .before .before .before .before .before .before .before .before .before .before
 
 abbrev loop-of-stow-arg4 : tie.After-stow-arg4 Inv-loop μ-loop → tie.At-loop Inv-loop μ-loop
 loop-of-stow-arg4 c = c .before .before .before .before .before .before .before .before .before .before .before .before .before .before .before
 
-abbrev event-of-more : tie.After-more Inv-loop μ-loop → tie.After-event Inv-loop μ-loop
-event-of-more c = c .before .before .before .before .before .before .before .before .before .before .before .before .before .before .before .before .before .before
+abbrev event-of-stow-arg4 : tie.After-stow-arg4 Inv-loop μ-loop → tie.After-event Inv-loop μ-loop
+event-of-stow-arg4 c = c .before .before .before .before .before .before .before .before .before .before
 
-abbrev stow-of-activity3 : tie.After-activity3 Inv-loop μ-loop → tie.After-stow Inv-loop μ-loop
-stow-of-activity3 c = c .before .before .before .before .before .before .before .before .before
+abbrev phase2-of-stow-arg4 : tie.After-stow-arg4 Inv-loop μ-loop → tie.After-phase2 Inv-loop μ-loop
+phase2-of-stow-arg4 c = c .before .before .before .before .before
 
-abbrev phase2-of-activity3 : tie.After-activity3 Inv-loop μ-loop → tie.After-phase2 Inv-loop μ-loop
-phase2-of-activity3 c = c .before .before .before .before .before .before .before .before .before .before .before .before .before .before .before
+abbrev event-of-slice-known14 : tie.After-slice-known14 Inv-loop μ-loop → tie.After-event Inv-loop μ-loop
+event-of-slice-known14 c = c .before .before .before .before .before .before .before .before .before .before .before .before .before .before .before .before .before
 
-abbrev event-of-activity3 : tie.After-activity3 Inv-loop μ-loop → tie.After-event Inv-loop μ-loop
-event-of-activity3 c = c .before .before .before .before .before .before .before .before .before .before .before .before .before .before .before .before .before .before .before .before
+abbrev event-of-held2 : tie.After-held2 Inv-loop μ-loop → tie.After-event Inv-loop μ-loop
+event-of-held2 c = c .before .before .before .before .before .before .before .before .before .before .before .before .before .before .before .before .before .before
 
-abbrev loop-of-activity3 : tie.After-activity3 Inv-loop μ-loop → tie.At-loop Inv-loop μ-loop
-loop-of-activity3 c = c .before .before .before .before .before .before .before .before .before .before .before .before .before .before .before .before .before .before .before .before .before .before .before .before .before
+abbrev loop-of-held2 : tie.After-held2 Inv-loop μ-loop → tie.At-loop Inv-loop μ-loop
+loop-of-held2 c = c .before .before .before .before .before .before .before .before .before .before .before .before .before .before .before .before .before .before .before .before .before .before .before
 
-abbrev event-of-advance-arg2 : tie.After-advance-arg2 Inv-loop μ-loop → tie.After-event Inv-loop μ-loop
-event-of-advance-arg2 c = c .before .before .before .before .before .before
+abbrev phase2-of-held2 : tie.After-held2 Inv-loop μ-loop → tie.After-phase2 Inv-loop μ-loop
+phase2-of-held2 c = c .before .before .before .before .before .before .before .before .before .before .before .before .before
+
+abbrev stow-of-held2 : tie.After-held2 Inv-loop μ-loop → tie.After-stow Inv-loop μ-loop
+stow-of-held2 c = c .before .before .before .before .before .before .before
 
 abbrev loop-of-advance-arg2 : tie.After-advance-arg2 Inv-loop μ-loop → tie.At-loop Inv-loop μ-loop
 loop-of-advance-arg2 c = c .before .before .before .before .before .before .before .before .before .before .before
 
+abbrev event-of-advance-arg2 : tie.After-advance-arg2 Inv-loop μ-loop → tie.After-event Inv-loop μ-loop
+event-of-advance-arg2 c = c .before .before .before .before .before .before
+
 abbrev event-of-slice-known16 : tie.After-slice-known16 Inv-loop μ-loop → tie.After-event Inv-loop μ-loop
 event-of-slice-known16 c = c .before .before .before .before .before .before .before .before .before .before .before
 
-abbrev advance-of-activity4 : tie.After-activity4 Inv-loop μ-loop → tie.After-advance Inv-loop μ-loop
-advance-of-activity4 c = c .before .before .before .before .before .before
+abbrev event-of-held3 : tie.After-held3 Inv-loop μ-loop → tie.After-event Inv-loop μ-loop
+event-of-held3 c = c .before .before .before .before .before .before .before .before .before .before .before .before
 
-abbrev match3-keys2-of-activity4 : tie.After-activity4 Inv-loop μ-loop → tie.At-match3-keys2 Inv-loop μ-loop
-match3-keys2-of-activity4 c = c .before .before .before .before .before .before .before .before .before
+abbrev loop-of-held3 : tie.After-held3 Inv-loop μ-loop → tie.At-loop Inv-loop μ-loop
+loop-of-held3 c = c .before .before .before .before .before .before .before .before .before .before .before .before .before .before .before .before .before
 
-abbrev event-of-activity4 : tie.After-activity4 Inv-loop μ-loop → tie.After-event Inv-loop μ-loop
-event-of-activity4 c = c .before .before .before .before .before .before .before .before .before .before .before .before .before
+abbrev match3-keys2-of-held3 : tie.After-held3 Inv-loop μ-loop → tie.At-match3-keys2 Inv-loop μ-loop
+match3-keys2-of-held3 c = c .before .before .before .before .before .before .before .before
 
-abbrev loop-of-activity4 : tie.After-activity4 Inv-loop μ-loop → tie.At-loop Inv-loop μ-loop
-loop-of-activity4 c = c .before .before .before .before .before .before .before .before .before .before .before .before .before .before .before .before .before .before
+abbrev advance-of-held3 : tie.After-held3 Inv-loop μ-loop → tie.After-advance Inv-loop μ-loop
+advance-of-held3 c = c .before .before .before .before .before
 
-abbrev event2-of-taken2 : tie.Then2 Inv-loop μ-loop → tie.After-event2 Inv-loop μ-loop
-event2-of-taken2 c = c .before .before .before .before .before
+abbrev loop-of-split-arg2 : tie.After-split-arg2 Inv-loop μ-loop → tie.At-loop Inv-loop μ-loop
+loop-of-split-arg2 c = c .before .before .before .before .before .before .before .before .before .before .before .before
 
-abbrev event2-of-activity-arg3 : tie.After-activity-arg3 Inv-loop μ-loop → tie.After-event2 Inv-loop μ-loop
-event2-of-activity-arg3 c = c .before .before .before .before .before .before
+abbrev event2-of-split-arg2 : tie.After-split-arg2 Inv-loop μ-loop → tie.After-event2 Inv-loop μ-loop
+event2-of-split-arg2 c = c .before .before .before .before .before .before .before
 
-abbrev event2-of-activity5 : tie.After-activity5 Inv-loop μ-loop → tie.After-event2 Inv-loop μ-loop
-event2-of-activity5 c = c .before .before .before .before .before .before .before .before
+abbrev event2-of-second : tie.After-second Inv-loop μ-loop → tie.After-event2 Inv-loop μ-loop
+event2-of-second c = c .before .before .before .before .before .before .before .before .before .before .before .before .before .before .before .before
 
-abbrev event2-of-split-arg3 : tie.After-split-arg3 Inv-loop μ-loop → tie.After-event2 Inv-loop μ-loop
-event2-of-split-arg3 c = c .before .before .before .before .before .before .before .before .before .before .before
+abbrev split-of-second : tie.After-second Inv-loop μ-loop → tie.After-split Inv-loop μ-loop
+split-of-second c = c .before .before .before .before .before .before .before .before
 
-abbrev loop-of-split-arg3 : tie.After-split-arg3 Inv-loop μ-loop → tie.At-loop Inv-loop μ-loop
-loop-of-split-arg3 c = c .before .before .before .before .before .before .before .before .before .before .before .before .before .before .before .before
+abbrev can-split-of-second : tie.After-second Inv-loop μ-loop → tie.After-can-split Inv-loop μ-loop
+can-split-of-second c = c .before .before .before .before .before .before .before .before .before .before .before .before
 
-abbrev split-of-given : tie.After-given Inv-loop μ-loop → tie.After-split Inv-loop μ-loop
-split-of-given c = c .before .before .before .before .before .before
+abbrev taken2-of-second : tie.After-second Inv-loop μ-loop → tie.Then2 Inv-loop μ-loop
+taken2-of-second c = c .before .before .before .before .before .before .before .before .before .before .before
 
-abbrev activity5-of-given : tie.After-given Inv-loop μ-loop → tie.After-activity5 Inv-loop μ-loop
-activity5-of-given c = c .before .before .before .before .before .before .before .before .before .before
-
-abbrev taken2-of-given : tie.After-given Inv-loop μ-loop → tie.Then2 Inv-loop μ-loop
-taken2-of-given c = c .before .before .before .before .before .before .before .before .before .before .before .before .before
-
-abbrev can-split-of-given : tie.After-given Inv-loop μ-loop → tie.After-can-split Inv-loop μ-loop
-can-split-of-given c = c .before .before .before .before .before .before .before .before .before .before .before .before .before .before
-
-abbrev event2-of-given : tie.After-given Inv-loop μ-loop → tie.After-event2 Inv-loop μ-loop
-event2-of-given c = c .before .before .before .before .before .before .before .before .before .before .before .before .before .before .before .before .before .before
-
-abbrev loop-of-given : tie.After-given Inv-loop μ-loop → tie.At-loop Inv-loop μ-loop
-loop-of-given c = c .before .before .before .before .before .before .before .before .before .before .before .before .before .before .before .before .before .before .before .before .before .before .before
-
-abbrev event2-of-left2 : tie.Else2 Inv-loop μ-loop → tie.After-event2 Inv-loop μ-loop
-event2-of-left2 c = c .before .before .before .before .before
+abbrev loop-of-second : tie.After-second Inv-loop μ-loop → tie.At-loop Inv-loop μ-loop
+loop-of-second c = c .before .before .before .before .before .before .before .before .before .before .before .before .before .before .before .before .before .before .before .before .before
 
 abbrev loop-of-left2 : tie.Else2 Inv-loop μ-loop → tie.At-loop Inv-loop μ-loop
 loop-of-left2 c = c .before .before .before .before .before .before .before .before .before .before
 
-abbrev event3-of-taken3 : tie.Then3 Inv-loop μ-loop → tie.After-event3 Inv-loop μ-loop
-event3-of-taken3 c = c .before .before .before .before .before
+abbrev event2-of-left2 : tie.Else2 Inv-loop μ-loop → tie.After-event2 Inv-loop μ-loop
+event2-of-left2 c = c .before .before .before .before .before
 
-abbrev event3-of-union-arg : tie.After-union-arg Inv-loop μ-loop → tie.After-event3 Inv-loop μ-loop
-event3-of-union-arg c = c .before .before .before .before .before .before
+abbrev loop-of-union-arg2 : tie.After-union-arg2 Inv-loop μ-loop → tie.At-loop Inv-loop μ-loop
+loop-of-union-arg2 c = c .before .before .before .before .before .before .before .before .before .before .before .before
 
-abbrev event3-of-union-arg4 : tie.After-union-arg4 Inv-loop μ-loop → tie.After-event3 Inv-loop μ-loop
-event3-of-union-arg4 c = c .before .before .before .before .before .before .before .before .before
+abbrev event3-of-union-arg2 : tie.After-union-arg2 Inv-loop μ-loop → tie.After-event3 Inv-loop μ-loop
+event3-of-union-arg2 c = c .before .before .before .before .before .before .before
 
-abbrev loop-of-union-arg4 : tie.After-union-arg4 Inv-loop μ-loop → tie.At-loop Inv-loop μ-loop
-loop-of-union-arg4 c = c .before .before .before .before .before .before .before .before .before .before .before .before .before .before
+abbrev event3-of-more : tie.After-more Inv-loop μ-loop → tie.After-event3 Inv-loop μ-loop
+event3-of-more c = c .before .before .before .before .before .before .before .before .before .before .before .before .before
 
-abbrev event3-of-slice-known20 : tie.After-slice-known20 Inv-loop μ-loop → tie.After-event3 Inv-loop μ-loop
-event3-of-slice-known20 c = c .before .before .before .before .before .before .before .before .before .before .before .before .before .before
+abbrev union-of-more : tie.After-more Inv-loop μ-loop → tie.After-union Inv-loop μ-loop
+union-of-more c = c .before .before .before .before .before
 
-abbrev union-of-empty2 : tie.After-empty2 Inv-loop μ-loop → tie.After-union Inv-loop μ-loop
-union-of-empty2 c = c .before .before .before .before .before
+abbrev can-unite-of-more : tie.After-more Inv-loop μ-loop → tie.After-can-unite Inv-loop μ-loop
+can-unite-of-more c = c .before .before .before .before .before .before .before .before .before
 
-abbrev taken3-of-empty2 : tie.After-empty2 Inv-loop μ-loop → tie.Then3 Inv-loop μ-loop
-taken3-of-empty2 c = c .before .before .before .before .before .before .before .before .before .before
+abbrev taken3-of-more : tie.After-more Inv-loop μ-loop → tie.Then3 Inv-loop μ-loop
+taken3-of-more c = c .before .before .before .before .before .before .before .before
 
-abbrev can-unite-of-empty2 : tie.After-empty2 Inv-loop μ-loop → tie.After-can-unite Inv-loop μ-loop
-can-unite-of-empty2 c = c .before .before .before .before .before .before .before .before .before .before .before
-
-abbrev event3-of-empty2 : tie.After-empty2 Inv-loop μ-loop → tie.After-event3 Inv-loop μ-loop
-event3-of-empty2 c = c .before .before .before .before .before .before .before .before .before .before .before .before .before .before .before
-
-abbrev loop-of-empty2 : tie.After-empty2 Inv-loop μ-loop → tie.At-loop Inv-loop μ-loop
-loop-of-empty2 c = c .before .before .before .before .before .before .before .before .before .before .before .before .before .before .before .before .before .before .before .before
-
-abbrev event3-of-left3 : tie.Else3 Inv-loop μ-loop → tie.After-event3 Inv-loop μ-loop
-event3-of-left3 c = c .before .before .before .before .before
+abbrev loop-of-more : tie.After-more Inv-loop μ-loop → tie.At-loop Inv-loop μ-loop
+loop-of-more c = c .before .before .before .before .before .before .before .before .before .before .before .before .before .before .before .before .before .before
 
 abbrev loop-of-left3 : tie.Else3 Inv-loop μ-loop → tie.At-loop Inv-loop μ-loop
 loop-of-left3 c = c .before .before .before .before .before .before .before .before .before .before
 
-abbrev enum-told2-of-gather-arg3 : tie.After-gather-arg3 Inv-loop μ-loop → tie.After-enum-told2 Inv-loop μ-loop
-enum-told2-of-gather-arg3 c = c .before .before .before .before .before .before
+abbrev event3-of-left3 : tie.Else3 Inv-loop μ-loop → tie.After-event3 Inv-loop μ-loop
+event3-of-left3 c = c .before .before .before .before .before
 
-abbrev loop-of-gather-arg3 : tie.After-gather-arg3 Inv-loop μ-loop → tie.At-loop Inv-loop μ-loop
-loop-of-gather-arg3 c = c .before .before .before .before .before .before .before .before .before .before .before
+abbrev loop-of-inputs : tie.After-inputs Inv-loop μ-loop → tie.At-loop Inv-loop μ-loop
+loop-of-inputs c = c .before .before .before .before .before .before .before
+
+abbrev enum-told2-of-gather-arg2 : tie.After-gather-arg2 Inv-loop μ-loop → tie.After-enum-told2 Inv-loop μ-loop
+enum-told2-of-gather-arg2 c = c .before .before .before .before .before .before .before .before
+
+abbrev loop-of-gather-arg2 : tie.After-gather-arg2 Inv-loop μ-loop → tie.At-loop Inv-loop μ-loop
+loop-of-gather-arg2 c = c .before .before .before .before .before .before .before .before .before .before .before .before .before
+
+abbrev taken5-of-gather-arg2 : tie.After-gather-arg2 Inv-loop μ-loop → tie.Then5 Inv-loop μ-loop
+taken5-of-gather-arg2 c = c .before .before .before .before
 
 abbrev enum-told2-of-slice-known22 : tie.After-slice-known22 Inv-loop μ-loop → tie.After-enum-told2 Inv-loop μ-loop
-enum-told2-of-slice-known22 c = c .before .before .before .before .before .before .before .before .before .before .before
+enum-told2-of-slice-known22 c = c .before .before .before .before .before .before .before .before .before .before .before .before .before
+
+abbrev loop-of-conclude : tie.After-conclude Inv-loop μ-loop → tie.At-loop Inv-loop μ-loop
+loop-of-conclude c = c .before .before .before .before .before .before .before .before .before .before .before .before .before .before .before .before .before .before .before .before .before
 
 abbrev gather-of-conclude : tie.After-conclude Inv-loop μ-loop → tie.After-gather Inv-loop μ-loop
 gather-of-conclude c = c .before .before .before .before .before .before .before
 
-abbrev taken5-of-conclude : tie.After-conclude Inv-loop μ-loop → tie.Then5 Inv-loop μ-loop
-taken5-of-conclude c = c .before .before .before .before .before .before .before .before .before .before .before
-
 abbrev enum-told2-of-conclude : tie.After-conclude Inv-loop μ-loop → tie.After-enum-told2 Inv-loop μ-loop
-enum-told2-of-conclude c = c .before .before .before .before .before .before .before .before .before .before .before .before .before .before
+enum-told2-of-conclude c = c .before .before .before .before .before .before .before .before .before .before .before .before .before .before .before .before
 
-abbrev loop-of-conclude : tie.After-conclude Inv-loop μ-loop → tie.At-loop Inv-loop μ-loop
-loop-of-conclude c = c .before .before .before .before .before .before .before .before .before .before .before .before .before .before .before .before .before .before .before
-
-abbrev activity6-of-all-free2 : tie.After-all-free2 Inv-loop μ-loop → tie.After-activity6 Inv-loop μ-loop
-activity6-of-all-free2 c = c .before .before .before .before
-
-abbrev left6-of-all-free2 : tie.After-all-free2 Inv-loop μ-loop → tie.Else6 Inv-loop μ-loop
-left6-of-all-free2 c = c .before .before .before .before .before
-
-abbrev is-empty2-of-all-free2 : tie.After-all-free2 Inv-loop μ-loop → tie.After-is-empty2 Inv-loop μ-loop
-is-empty2-of-all-free2 c = c .before .before .before .before .before .before
+abbrev taken5-of-conclude : tie.After-conclude Inv-loop μ-loop → tie.Then5 Inv-loop μ-loop
+taken5-of-conclude c = c .before .before .before .before .before .before .before .before .before .before .before .before
 
 abbrev gather-of-all-free2 : tie.After-all-free2 Inv-loop μ-loop → tie.After-gather Inv-loop μ-loop
-gather-of-all-free2 c = c .before .before .before .before .before .before .before .before .before .before .before
+gather-of-all-free2 c = c .before .before .before .before .before .before .before .before .before .before
+
+abbrev loop-of-all-free2 : tie.After-all-free2 Inv-loop μ-loop → tie.At-loop Inv-loop μ-loop
+loop-of-all-free2 c = c .before .before .before .before .before .before .before .before .before .before .before .before .before .before .before .before .before .before .before .before .before .before .before .before
+
+abbrev taken4-of-all-free2 : tie.After-all-free2 Inv-loop μ-loop → tie.Then4 Inv-loop μ-loop
+taken4-of-all-free2 c = c .before .before .before .before .before .before .before .before .before .before .before .before .before .before .before .before .before .before
+
+abbrev all-empty-of-all-free2 : tie.After-all-free2 Inv-loop μ-loop → tie.After-all-empty Inv-loop μ-loop
+all-empty-of-all-free2 c = c .before .before .before .before .before .before .before .before .before .before .before .before .before .before .before .before
 
 abbrev taken5-of-all-free2 : tie.After-all-free2 Inv-loop μ-loop → tie.Then5 Inv-loop μ-loop
 taken5-of-all-free2 c = c .before .before .before .before .before .before .before .before .before .before .before .before .before .before .before
 
-abbrev all-idle-of-all-free2 : tie.After-all-free2 Inv-loop μ-loop → tie.After-all-idle Inv-loop μ-loop
-all-idle-of-all-free2 c = c .before .before .before .before .before .before .before .before .before .before .before .before .before .before .before .before
+abbrev is-empty2-of-all-free2 : tie.After-all-free2 Inv-loop μ-loop → tie.After-is-empty2 Inv-loop μ-loop
+is-empty2-of-all-free2 c = c .before .before .before .before .before
+
+abbrev left6-of-all-free2 : tie.After-all-free2 Inv-loop μ-loop → tie.Else6 Inv-loop μ-loop
+left6-of-all-free2 c = c .before .before .before .before
 
 abbrev enum-told2-of-all-free2 : tie.After-all-free2 Inv-loop μ-loop → tie.After-enum-told2 Inv-loop μ-loop
-enum-told2-of-all-free2 c = c .before .before .before .before .before .before .before .before .before .before .before .before .before .before .before .before .before .before
-
-abbrev loop-of-all-free2 : tie.After-all-free2 Inv-loop μ-loop → tie.At-loop Inv-loop μ-loop
-loop-of-all-free2 c = c .before .before .before .before .before .before .before .before .before .before .before .before .before .before .before .before .before .before .before .before .before .before .before
+enum-told2-of-all-free2 c = c .before .before .before .before .before .before .before .before .before .before .before .before .before .before .before .before .before .before .before
 
 abbrev loop-of-left5 : tie.Else5 Inv-loop μ-loop → tie.At-loop Inv-loop μ-loop
-loop-of-left5 c = c .before .before .before .before .before .before .before .before
+loop-of-left5 c = c .before .before .before .before .before .before .before .before .before
+
+abbrev enum-told2-of-left5 : tie.Else5 Inv-loop μ-loop → tie.After-enum-told2 Inv-loop μ-loop
+enum-told2-of-left5 c = c .before .before .before .before
 
 abbrev loop-of-left4 : tie.Else4 Inv-loop μ-loop → tie.At-loop Inv-loop μ-loop
 loop-of-left4 c = c .before .before .before .before .before .before
@@ -369,9 +356,6 @@ loop-of-enum-told3 c = c .before .before .before .before .before
 
 open-requires : tie.Need-open-requires Inv-loop μ-loop
 open-requires c κs = let s = (start-of-open-arg5 c) in (source-there (s .pre), s .pre .sized)
-
-activity-requires : tie.Need-activity-requires Inv-loop μ-loop
-activity-requires c κs = search needs
 
 first-of-eight-requires : tie.Need-first-of-eight-requires Inv-loop μ-loop
 first-of-eight-requires c κs = search needs
@@ -387,16 +371,16 @@ all-free-requires c κs = search needs
 
 loop-holds : tie.Need-loop-holds Inv-loop μ-loop
 loop-holds c =
-    let entered = opening c in
+    let entered = (open-of-all-free c) in
     let s = start entered in
-    let b = entered .«open» .result in
+    let b = entered .«open» .result .slots in
+    let long : length b ≡ slotCount = search needs in
     let first : _ ≡ firstOfEight b = c .before .before .before .first-of-eight .ensures in
-    let none = c .before .first-of-eight2 .ensures ∙ ap (λ (l : List ℕ). firstOfEight (record { slots = l })) (c .before .before .empty .ensures) in
-    let free = c .all-free .ensures in
-    let active = (activity-of-all-free c) .activity .ensures .0 emptyBagOf in (
+    let none = c .before .first-of-eight2 .ensures ∙ ap firstOfEight (c .before .before .empty .ensures) in
+    let free = c .all-free .ensures in (
       record {
         playing = start-on (s .pre) (entered .«open» .ensures) (opened-as b first none free) (opened-lengths entered);
-        manned = manned-opened (s .args .workers) b (s .pre .accepted .some-worker) (s .pre .accepted .few-workers) active first none free;
+        manned = manned-opened (s .args .workers) b (s .pre .accepted .some-worker) (s .pre .accepted .few-workers) long refl first none free;
       },
       same-start,
     )
@@ -422,11 +406,11 @@ array-copy-out-phase c = work-place (c .before)
 enum-told : tie.Need-enum-told Inv-loop μ-loop
 enum-told c = search needs
 
-mul-is-empty : tie.Need-mul-is-empty Inv-loop μ-loop
-mul-is-empty c = record { fits = omega (arith, work-place (event-of-enum-told c)) }
+mul-slots : tie.Need-mul-slots Inv-loop μ-loop
+mul-slots c = record { fits = omega (arith, work-place (event-of-enum-told c)) }
 
-array-copy-out-is-empty : tie.Need-array-copy-out-is-empty Inv-loop μ-loop
-array-copy-out-is-empty c = work-place (event-of-enum-told c)
+array-copy-out-slots : tie.Need-array-copy-out-slots Inv-loop μ-loop
+array-copy-out-slots c = work-place (event-of-enum-told c)
 
 is-empty-requires : tie.Need-is-empty-requires Inv-loop μ-loop
 is-empty-requires c κs = search needs
@@ -434,55 +418,43 @@ is-empty-requires c κs = search needs
 mul-begin : tie.Need-mul-begin Inv-loop μ-loop
 mul-begin c = record { fits = omega (arith, work-place (event-of-taken1 c)) }
 
-array-copy-out-begin : tie.Need-array-copy-out-begin Inv-loop μ-loop
-array-copy-out-begin c = work-place (event-of-taken1 c)
+index-1-begin : tie.Need-index-1-begin Inv-loop μ-loop
+index-1-begin c = work-place (event-of-taken1 c)
 
 begin-requires : tie.Need-begin-requires Inv-loop μ-loop
 begin-requires c κs = begin-able ((loop-of-begin-arg4 c) .loop .inv .0 .manned) (work-turn (event-of-begin-arg4 c)) (filled (taken1-of-begin-arg4 c))
 
-mul-inputs : tie.Need-mul-inputs Inv-loop μ-loop
-mul-inputs c = record { fits = omega (arith, work-place (event-of-rest c)) }
-
-array-set-from-inputs : tie.Need-array-set-from-inputs Inv-loop μ-loop
-array-set-from-inputs c = work-place (event-of-rest c)
-
 mul-phases : tie.Need-mul-phases Inv-loop μ-loop
-mul-phases c = record { fits = omega (arith, work-place (event-of-rest c)) }
+mul-phases c = record { fits = omega (arith, work-place (event-of-slice-known11 c)) }
 
 array-set-from-phases : tie.Need-array-set-from-phases Inv-loop μ-loop
-array-set-from-phases c = work-place (event-of-rest c)
+array-set-from-phases c = work-place (event-of-slice-known11 c)
 
-activity-requires-2 : tie.Need-activity-requires-2 Inv-loop μ-loop
-activity-requires-2 c κs = search needs
+held-requires : tie.Need-held-requires Inv-loop μ-loop
+held-requires c κs = search needs
 
 add-busy : tie.Need-add-busy Inv-loop μ-loop
-add-busy c = record { fits = omega (arith, busy-few (work-turn (event-of-activity2 c) .playing .ready .accepted .few-workers) ((loop-of-activity2 c) .loop .inv .0 .manned), c .activity2 .ensures .1) }
-
-sub-busy : tie.Need-sub-busy Inv-loop μ-loop
-sub-busy c = omega (arith, filled-some ((loop-of-activity2 c) .loop .inv .0 .manned) (work-turn (event-of-activity2 c)) (filled (taken1-of-activity2 c)))
+add-busy c = record { fits = omega (arith, busy-few (work-turn (event-of-held c) .playing .ready .accepted .few-workers) ((loop-of-held c) .loop .inv .0 .manned), c .held .ensures .1) }
 
 add-effective : tie.Need-add-effective Inv-loop μ-loop
-add-effective c = record { fits = effective-fits (work-turn (event-of-activity2 c)) }
+add-effective c = record { fits = effective-fits (work-turn (event-of-held c)) }
 
 loop-less : tie.Need-loop-less Inv-loop μ-loop
 loop-less c = search needs
 
 loop-again : tie.Need-loop-again Inv-loop μ-loop
 loop-again c =
-    let begun = (begin-of-activity2 c) in
+    let begun = c .before .before .before in
     let same = same-left (begun .begin .kept .1 .1) in (
-      begun-on ((loop-of-activity2 c) .loop .inv .0 .manned) (work-turn (event-of-activity2 c)) (filled (taken1-of-activity2 c)) ((enum-told-of-activity2 c) .enum-told .given .1) (begun .begin .ensures) same
-          (c .activity2 .ensures .0),
-      same-then ((loop-of-activity2 c) .loop .inv .1) same,
+      begun-on ((loop-of-held c) .loop .inv .0 .manned) (work-turn (event-of-held c)) ((enum-told-of-held c) .enum-told .given .1) (begun .begin .ensures .0) (begun .begin .ensures .1) same (c .held .ensures .0),
+      same-then ((loop-of-held c) .loop .inv .1) same,
     )
 
 loop-less-2 : tie.Need-loop-less-2 Inv-loop μ-loop
 loop-less-2 c = search needs
 
 loop-again-2 : tie.Need-loop-again-2 Inv-loop μ-loop
-loop-again-2 c =
-    let at = (loop-of-left1 c) in
-    (rest-on ((loop-of-left1 c) .loop .inv .0 .manned) (work-turn (event-of-left1 c)) (c .before .before .before .enum-told .given .1) (rested c), at .loop .inv .1)
+loop-again-2 c = (rest-on ((loop-of-left1 c) .loop .inv .0 .manned) (work-turn (event-of-left1 c)) (c .before .before .before .enum-told .given .1) (rested c), (loop-of-left1 c) .loop .inv .1)
 
 enum-known-phase : tie.Need-enum-known-phase Inv-loop μ-loop
 enum-known-phase c = search needs
@@ -490,51 +462,39 @@ enum-known-phase c = search needs
 mul-stow : tie.Need-mul-stow Inv-loop μ-loop
 mul-stow c = record { fits = omega (arith, work-place (event-of-known-told2 c)) }
 
-array-copy-out-stow : tie.Need-array-copy-out-stow Inv-loop μ-loop
-array-copy-out-stow c = work-place (event-of-known-told2 c)
+index-1-stow : tie.Need-index-1-stow Inv-loop μ-loop
+index-1-stow c = work-place (event-of-known-told2 c)
 
 stow-requires : tie.Need-stow-requires Inv-loop μ-loop
 stow-requires c κs = stow-able ((loop-of-stow-arg4 c) .loop .inv .0 .manned) (work-turn (event-of-stow-arg4 c)) ((phase2-of-stow-arg4 c) .phase2 .given .1)
 
-mul-outputs : tie.Need-mul-outputs Inv-loop μ-loop
-mul-outputs c = record { fits = omega (arith, work-place (event-of-more c)) }
-
-array-set-from-outputs : tie.Need-array-set-from-outputs Inv-loop μ-loop
-array-set-from-outputs c = work-place (event-of-more c)
-
 mul-phases-2 : tie.Need-mul-phases-2 Inv-loop μ-loop
-mul-phases-2 c = record { fits = omega (arith, work-place (event-of-more c)) }
+mul-phases-2 c = record { fits = omega (arith, work-place (event-of-slice-known14 c)) }
 
 array-set-from-phases-2 : tie.Need-array-set-from-phases-2 Inv-loop μ-loop
-array-set-from-phases-2 c = work-place (event-of-more c)
+array-set-from-phases-2 c = work-place (event-of-slice-known14 c)
 
-mul-activity : tie.Need-mul-activity Inv-loop μ-loop
-mul-activity c = record { fits = omega (arith, work-place (event-of-more c)) }
-
-array-copy-out-activity : tie.Need-array-copy-out-activity Inv-loop μ-loop
-array-copy-out-activity c = work-place (event-of-more c)
-
-activity-requires-3 : tie.Need-activity-requires-3 Inv-loop μ-loop
-activity-requires-3 c κs = search needs
+held-requires-2 : tie.Need-held-requires-2 Inv-loop μ-loop
+held-requires-2 c κs = search needs
 
 add-busy-2 : tie.Need-add-busy-2 Inv-loop μ-loop
-add-busy-2 c = record { fits = omega (arith, busy-few (work-turn (event-of-activity3 c) .playing .ready .accepted .few-workers) ((loop-of-activity3 c) .loop .inv .0 .manned), c .activity3 .ensures .1) }
+add-busy-2 c = record { fits = omega (arith, busy-few (work-turn (event-of-held2 c) .playing .ready .accepted .few-workers) ((loop-of-held2 c) .loop .inv .0 .manned), c .held2 .ensures .1) }
 
-sub-busy-2 : tie.Need-sub-busy-2 Inv-loop μ-loop
-sub-busy-2 c = omega (arith, held-some ((loop-of-activity3 c) .loop .inv .0 .manned) (work-turn (event-of-activity3 c)) (named-held ((loop-of-activity3 c) .loop .inv .0 .manned) (work-turn (event-of-activity3 c)) ((phase2-of-activity3 c) .phase2 .given .1)))
+sub-busy : tie.Need-sub-busy Inv-loop μ-loop
+sub-busy c = omega (arith, held-some ((loop-of-held2 c) .loop .inv .0 .manned) (work-turn (event-of-held2 c)) (named-held ((loop-of-held2 c) .loop .inv .0 .manned) (work-turn (event-of-held2 c)) ((phase2-of-held2 c) .phase2 .given .1)))
 
 add-effective-2 : tie.Need-add-effective-2 Inv-loop μ-loop
-add-effective-2 c = record { fits = effective-fits (work-turn (event-of-activity3 c)) }
+add-effective-2 c = record { fits = effective-fits (work-turn (event-of-held2 c)) }
 
 loop-less-3 : tie.Need-loop-less-3 Inv-loop μ-loop
 loop-less-3 c = search needs
 
 loop-again-3 : tie.Need-loop-again-3 Inv-loop μ-loop
 loop-again-3 c =
-    let stowed = (stow-of-activity3 c) in
+    let stowed = (stow-of-held2 c) in
     let same = same-nodes (stowed .stow .kept .1 .1 .1 .1 .1) in (
-      stowed-on ((loop-of-activity3 c) .loop .inv .0 .manned) (work-turn (event-of-activity3 c)) ((phase2-of-activity3 c) .phase2 .given .1) (stowed .stow .ensures) same (c .activity3 .ensures .0),
-      same-then ((loop-of-activity3 c) .loop .inv .1) same,
+      stowed-on ((loop-of-held2 c) .loop .inv .0 .manned) (work-turn (event-of-held2 c)) ((phase2-of-held2 c) .phase2 .given .1) (stowed .stow .ensures .0) (stowed .stow .ensures .1) same (c .held2 .ensures .0),
+      same-then ((loop-of-held2 c) .loop .inv .1) same,
     )
 
 advance-requires : tie.Need-advance-requires Inv-loop μ-loop
@@ -546,108 +506,77 @@ mul-phases-3 c = record { fits = omega (arith, work-place (event-of-slice-known1
 array-set-from-phases-3 : tie.Need-array-set-from-phases-3 Inv-loop μ-loop
 array-set-from-phases-3 c = work-place (event-of-slice-known16 c)
 
-mul-activity-2 : tie.Need-mul-activity-2 Inv-loop μ-loop
-mul-activity-2 c = record { fits = omega (arith, work-place (event-of-slice-known16 c)) }
-
-array-copy-out-activity-2 : tie.Need-array-copy-out-activity-2 Inv-loop μ-loop
-array-copy-out-activity-2 c = work-place (event-of-slice-known16 c)
-
-activity-requires-4 : tie.Need-activity-requires-4 Inv-loop μ-loop
-activity-requires-4 c κs = search needs
+held-requires-3 : tie.Need-held-requires-3 Inv-loop μ-loop
+held-requires-3 c κs = search needs
 
 add-busy-3 : tie.Need-add-busy-3 Inv-loop μ-loop
-add-busy-3 c = record { fits = omega (arith, busy-few (work-turn (event-of-activity4 c) .playing .ready .accepted .few-workers) ((loop-of-activity4 c) .loop .inv .0 .manned), c .activity4 .ensures .1) }
+add-busy-3 c = record { fits = omega (arith, busy-few (work-turn (event-of-held3 c) .playing .ready .accepted .few-workers) ((loop-of-held3 c) .loop .inv .0 .manned), c .held3 .ensures .1) }
 
-sub-busy-3 : tie.Need-sub-busy-3 Inv-loop μ-loop
-sub-busy-3 c = omega (arith, held-some ((loop-of-activity4 c) .loop .inv .0 .manned) (work-turn (event-of-activity4 c)) (between-held ((loop-of-activity4 c) .loop .inv .0 .manned) (work-turn (event-of-activity4 c)) (between (match3-keys2-of-activity4 c))))
+sub-busy-2 : tie.Need-sub-busy-2 Inv-loop μ-loop
+sub-busy-2 c = omega (arith, held-some ((loop-of-held3 c) .loop .inv .0 .manned) (work-turn (event-of-held3 c)) (between-held ((loop-of-held3 c) .loop .inv .0 .manned) (work-turn (event-of-held3 c)) (between (match3-keys2-of-held3 c))))
 
 add-effective-3 : tie.Need-add-effective-3 Inv-loop μ-loop
-add-effective-3 c = record { fits = effective-fits (work-turn (event-of-activity4 c)) }
+add-effective-3 c = record { fits = effective-fits (work-turn (event-of-held3 c)) }
 
 loop-less-4 : tie.Need-loop-less-4 Inv-loop μ-loop
 loop-less-4 c = search needs
 
 loop-again-4 : tie.Need-loop-again-4 Inv-loop μ-loop
 loop-again-4 c =
-    let advanced = (advance-of-activity4 c) in
+    let advanced = (advance-of-held3 c) in
     let same = same-labels (advanced .advance .kept .1 .1 .1) in (
-      advanced-on ((loop-of-activity4 c) .loop .inv .0 .manned) (work-turn (event-of-activity4 c)) (between (match3-keys2-of-activity4 c)) (advanced .advance .ensures) same (c .activity4 .ensures .0),
-      same-then ((loop-of-activity4 c) .loop .inv .1) same,
+      advanced-on ((loop-of-held3 c) .loop .inv .0 .manned) (work-turn (event-of-held3 c)) (between (match3-keys2-of-held3 c)) (advanced .advance .ensures) same (c .held3 .ensures .0),
+      same-then ((loop-of-held3 c) .loop .inv .1) same,
     )
 
 enum-known-event-2 : tie.Need-enum-known-event-2 Inv-loop μ-loop
 enum-known-event-2 c = search needs
 
-mul-can-split : tie.Need-mul-can-split Inv-loop μ-loop
-mul-can-split c = record { fits = omega (arith, split-places (c .before) .0) }
+mul-taken : tie.Need-mul-taken Inv-loop μ-loop
+mul-taken c = record { fits = omega (arith, split-places (c .before) .0) }
 
-array-copy-out-can-split : tie.Need-array-copy-out-can-split Inv-loop μ-loop
-array-copy-out-can-split c = split-places (c .before) .0
+array-copy-out-taken : tie.Need-array-copy-out-taken Inv-loop μ-loop
+array-copy-out-taken c = split-places (c .before) .0
 
-mul-can-split-2 : tie.Need-mul-can-split-2 Inv-loop μ-loop
-mul-can-split-2 c = record { fits = omega (arith, split-places (c .before .before) .1) }
+mul-slots-2 : tie.Need-mul-slots-2 Inv-loop μ-loop
+mul-slots-2 c = record { fits = omega (arith, split-places (c .before .before) .1) }
 
-array-copy-out-can-split-2 : tie.Need-array-copy-out-can-split-2 Inv-loop μ-loop
-array-copy-out-can-split-2 c = split-places (c .before .before) .1
+array-copy-out-slots-2 : tie.Need-array-copy-out-slots-2 Inv-loop μ-loop
+array-copy-out-slots-2 c = split-places (c .before .before) .1
 
 can-split-requires : tie.Need-can-split-requires Inv-loop μ-loop
 can-split-requires c κs = search needs
 
-mul-activity-3 : tie.Need-mul-activity-3 Inv-loop μ-loop
-mul-activity-3 c = record { fits = omega (arith, split-places (event2-of-taken2 c) .0) }
-
-array-copy-out-activity-3 : tie.Need-array-copy-out-activity-3 Inv-loop μ-loop
-array-copy-out-activity-3 c = split-places (event2-of-taken2 c) .0
-
-mul-activity-4 : tie.Need-mul-activity-4 Inv-loop μ-loop
-mul-activity-4 c = record { fits = omega (arith, split-places (event2-of-activity-arg3 c) .0) }
-
-array-copy-out-activity-4 : tie.Need-array-copy-out-activity-4 Inv-loop μ-loop
-array-copy-out-activity-4 c = split-places (event2-of-activity-arg3 c) .0
-
-activity-requires-5 : tie.Need-activity-requires-5 Inv-loop μ-loop
-activity-requires-5 c κs = search needs
-
-mul-split : tie.Need-mul-split Inv-loop μ-loop
-mul-split c = record { fits = omega (arith, split-places (event2-of-activity5 c) .1) }
-
-array-copy-out-split : tie.Need-array-copy-out-split Inv-loop μ-loop
-array-copy-out-split c = split-places (event2-of-activity5 c) .1
-
 split-requires : tie.Need-split-requires Inv-loop μ-loop
-split-requires c κs = split-able ((loop-of-split-arg3 c) .loop .inv .0 .manned) (split-turn (event2-of-split-arg3 c))
+split-requires c κs = split-able ((loop-of-split-arg2 c) .loop .inv .0 .manned) (split-turn (event2-of-split-arg2 c))
+
+mul-inputs : tie.Need-mul-inputs Inv-loop μ-loop
+mul-inputs c = record { fits = omega (arith, split-places (event2-of-second c) .1) }
+
+array-set-from-inputs : tie.Need-array-set-from-inputs Inv-loop μ-loop
+array-set-from-inputs c = split-places (event2-of-second c) .1
 
 mul-inputs-2 : tie.Need-mul-inputs-2 Inv-loop μ-loop
-mul-inputs-2 c = record { fits = omega (arith, split-places (event2-of-given c) .1) }
+mul-inputs-2 c = record { fits = omega (arith, split-places (event2-of-second c) .0) }
 
 array-set-from-inputs-2 : tie.Need-array-set-from-inputs-2 Inv-loop μ-loop
-array-set-from-inputs-2 c = split-places (event2-of-given c) .1
-
-mul-inputs-3 : tie.Need-mul-inputs-3 Inv-loop μ-loop
-mul-inputs-3 c = record { fits = omega (arith, split-places (event2-of-given c) .0) }
-
-array-set-from-inputs-3 : tie.Need-array-set-from-inputs-3 Inv-loop μ-loop
-array-set-from-inputs-3 c = split-places (event2-of-given c) .0
-
-add-busy-4 : tie.Need-add-busy-4 Inv-loop μ-loop
-add-busy-4 c = record { fits = omega (arith, busy-few (split-turn (event2-of-given c) .playing .ready .accepted .few-workers) ((loop-of-given c) .loop .inv .0 .manned)) }
-
-sub-busy-4 : tie.Need-sub-busy-4 Inv-loop μ-loop
-sub-busy-4 c = omega (arith, (activity5-of-given c) .activity5 .ensures .1)
+array-set-from-inputs-2 c = split-places (event2-of-second c) .0
 
 add-effective-4 : tie.Need-add-effective-4 Inv-loop μ-loop
-add-effective-4 c = record { fits = effective-fits (split-turn (event2-of-given c)) }
+add-effective-4 c = record { fits = effective-fits (split-turn (event2-of-second c)) }
 
 loop-less-5 : tie.Need-loop-less-5 Inv-loop μ-loop
 loop-less-5 c = search needs
 
 loop-again-5 : tie.Need-loop-again-5 Inv-loop μ-loop
 loop-again-5 c =
-    let made = (split-of-given c) in
-    let met = sym ((can-split-of-given c) .can-split .ensures _ _) ∙ (taken2-of-given c) .if2 .taken in
+    let made = (split-of-second c) in
+    let met = sym ((can-split-of-second c) .can-split .ensures _ _) ∙ (taken2-of-second c) .if2 .taken in
+    let kept-long : length (made .split .result .first .slots) ≡ slotCount = search needs in
+    let given-long : length (made .split .result .second .slots) ≡ slotCount = search needs in
     let same = same-links (made .split .kept .1) in (
-      split-on ((loop-of-given c) .loop .inv .0 .manned) (split-turn (event2-of-given c)) met (made .split .ensures) ((activity5-of-given c) .activity5 .ensures .0) same,
-      same-then ((loop-of-given c) .loop .inv .1) same,
+      split-on ((loop-of-second c) .loop .inv .0 .manned) (split-turn (event2-of-second c)) met (made .split .ensures) kept-long given-long same,
+      same-then ((loop-of-second c) .loop .inv .1) same,
     )
 
 loop-less-6 : tie.Need-loop-less-6 Inv-loop μ-loop
@@ -661,64 +590,50 @@ loop-again-6 c =
 enum-known-event-3 : tie.Need-enum-known-event-3 Inv-loop μ-loop
 enum-known-event-3 c = search needs
 
-mul-can-unite : tie.Need-mul-can-unite Inv-loop μ-loop
-mul-can-unite c = record { fits = omega (arith, unite-places (c .before) .0) }
+mul-given : tie.Need-mul-given Inv-loop μ-loop
+mul-given c = record { fits = omega (arith, unite-places (c .before) .0) }
 
-array-copy-out-can-unite : tie.Need-array-copy-out-can-unite Inv-loop μ-loop
-array-copy-out-can-unite c = unite-places (c .before) .0
+array-copy-out-given : tie.Need-array-copy-out-given Inv-loop μ-loop
+array-copy-out-given c = unite-places (c .before) .0
 
-mul-can-unite-2 : tie.Need-mul-can-unite-2 Inv-loop μ-loop
-mul-can-unite-2 c = record { fits = omega (arith, unite-places (c .before .before) .1) }
+mul-slots-3 : tie.Need-mul-slots-3 Inv-loop μ-loop
+mul-slots-3 c = record { fits = omega (arith, unite-places (c .before .before) .1) }
 
-array-copy-out-can-unite-2 : tie.Need-array-copy-out-can-unite-2 Inv-loop μ-loop
-array-copy-out-can-unite-2 c = unite-places (c .before .before) .1
+array-copy-out-slots-3 : tie.Need-array-copy-out-slots-3 Inv-loop μ-loop
+array-copy-out-slots-3 c = unite-places (c .before .before) .1
 
 can-unite-requires : tie.Need-can-unite-requires Inv-loop μ-loop
 can-unite-requires c κs = search needs
 
-mul-union : tie.Need-mul-union Inv-loop μ-loop
-mul-union c = record { fits = omega (arith, unite-places (event3-of-taken3 c) .1) }
-
-array-copy-out-union : tie.Need-array-copy-out-union Inv-loop μ-loop
-array-copy-out-union c = unite-places (event3-of-taken3 c) .1
-
-mul-union-2 : tie.Need-mul-union-2 Inv-loop μ-loop
-mul-union-2 c = record { fits = omega (arith, unite-places (event3-of-union-arg c) .0) }
-
-array-copy-out-union-2 : tie.Need-array-copy-out-union-2 Inv-loop μ-loop
-array-copy-out-union-2 c = unite-places (event3-of-union-arg c) .0
-
 union-requires : tie.Need-union-requires Inv-loop μ-loop
-union-requires c κs = unite-able ((loop-of-union-arg4 c) .loop .inv .0 .manned) (unite-turn (event3-of-union-arg4 c))
+union-requires c κs = unite-able ((loop-of-union-arg2 c) .loop .inv .0 .manned) (unite-turn (event3-of-union-arg2 c))
+
+mul-outputs : tie.Need-mul-outputs Inv-loop μ-loop
+mul-outputs c = record { fits = omega (arith, unite-places (event3-of-more c) .1) }
+
+array-set-from-outputs : tie.Need-array-set-from-outputs Inv-loop μ-loop
+array-set-from-outputs c = unite-places (event3-of-more c) .1
 
 mul-outputs-2 : tie.Need-mul-outputs-2 Inv-loop μ-loop
-mul-outputs-2 c = record { fits = omega (arith, unite-places (event3-of-slice-known20 c) .1) }
+mul-outputs-2 c = record { fits = omega (arith, unite-places (event3-of-more c) .0) }
 
 array-set-from-outputs-2 : tie.Need-array-set-from-outputs-2 Inv-loop μ-loop
-array-set-from-outputs-2 c = unite-places (event3-of-slice-known20 c) .1
-
-empty-requires-2 : tie.Need-empty-requires-2 Inv-loop μ-loop
-empty-requires-2 c κs = search needs
-
-mul-outputs-3 : tie.Need-mul-outputs-3 Inv-loop μ-loop
-mul-outputs-3 c = record { fits = omega (arith, unite-places (event3-of-empty2 c) .0) }
-
-array-set-from-outputs-3 : tie.Need-array-set-from-outputs-3 Inv-loop μ-loop
-array-set-from-outputs-3 c = unite-places (event3-of-empty2 c) .0
+array-set-from-outputs-2 c = unite-places (event3-of-more c) .0
 
 add-effective-5 : tie.Need-add-effective-5 Inv-loop μ-loop
-add-effective-5 c = record { fits = effective-fits (unite-turn (event3-of-empty2 c)) }
+add-effective-5 c = record { fits = effective-fits (unite-turn (event3-of-more c)) }
 
 loop-less-7 : tie.Need-loop-less-7 Inv-loop μ-loop
 loop-less-7 c = search needs
 
 loop-again-7 : tie.Need-loop-again-7 Inv-loop μ-loop
 loop-again-7 c =
-    let made = (union-of-empty2 c) in
-    let met = sym ((can-unite-of-empty2 c) .can-unite .ensures _ _) ∙ (taken3-of-empty2 c) .if3 .taken in
+    let made = (union-of-more c) in
+    let met = sym ((can-unite-of-more c) .can-unite .ensures _ _) ∙ (taken3-of-more c) .if3 .taken in
+    let long : length (made .union .result .slots) ≡ slotCount = search needs in
     let same = same-links (made .union .kept .1 .1) in (
-      unite-on ((loop-of-empty2 c) .loop .inv .0 .manned) (unite-turn (event3-of-empty2 c)) met (made .union .ensures) (c .empty2 .ensures) same,
-      same-then ((loop-of-empty2 c) .loop .inv .1) same,
+      unite-on ((loop-of-more c) .loop .inv .0 .manned) (unite-turn (event3-of-more c)) met (made .union .ensures) refl long same,
+      same-then ((loop-of-more c) .loop .inv .1) same,
     )
 
 loop-less-8 : tie.Need-loop-less-8 Inv-loop μ-loop
@@ -732,16 +647,16 @@ loop-again-8 c =
 enum-told-2 : tie.Need-enum-told-2 Inv-loop μ-loop
 enum-told-2 c = search needs
 
-all-idle-requires : tie.Need-all-idle-requires Inv-loop μ-loop
-all-idle-requires c κs = close-turn (c .before) .playing .ready .accepted .few-workers
+all-empty-requires : tie.Need-all-empty-requires Inv-loop μ-loop
+all-empty-requires c κs = (close-turn (c .before .before) .playing .ready .accepted .few-workers, (loop-of-inputs c) .loop .inv .0 .manned .inputs-full)
 
-array-copy-out-gather : tie.Need-array-copy-out-gather Inv-loop μ-loop
-array-copy-out-gather c = search needs
+array-copy-out-slots-4 : tie.Need-array-copy-out-slots-4 Inv-loop μ-loop
+array-copy-out-slots-4 c = search needs
 
 gather-requires : tie.Need-gather-requires Inv-loop μ-loop
 gather-requires c κs =
-    let told = close-turn (enum-told2-of-gather-arg3 c) in
-    (told .playing .ready .accepted .few-workers, gather-pooled ((loop-of-gather-arg3 c) .loop .inv .0 .manned) told (idle-told (c .before .before .before)))
+    let told = close-turn (enum-told2-of-gather-arg2 c) in
+    (told .playing .ready .accepted .few-workers, ((loop-of-gather-arg2 c) .loop .inv .0 .manned .outputs-full, gather-pooled ((loop-of-gather-arg2 c) .loop .inv .0 .manned) told (idle-told (taken5-of-gather-arg2 c))))
 
 add-next : tie.Need-add-next Inv-loop μ-loop
 add-next c = record { fits = layer-fits (close-turn (enum-told2-of-slice-known22 c) .playing) }
@@ -776,14 +691,11 @@ returns c =
     let empty = sym (c .before .before .is-empty2 .ensures _ _) ∙ c .before .if6 .taken in
     finished-ran ((loop-of-conclude c) .loop .inv .0 .manned) (close-turn (enum-told2-of-conclude c)) (idle-told (taken5-of-conclude c)) (gathered .gather .ensures) empty (c .conclude .ensures)
 
-activity-requires-6 : tie.Need-activity-requires-6 Inv-loop μ-loop
-activity-requires-6 c κs = search needs
-
 first-of-eight-requires-3 : tie.Need-first-of-eight-requires-3 Inv-loop μ-loop
 first-of-eight-requires-3 c κs = search needs
 
-empty-requires-3 : tie.Need-empty-requires-3 Inv-loop μ-loop
-empty-requires-3 c κs = search needs
+empty-requires-2 : tie.Need-empty-requires-2 Inv-loop μ-loop
+empty-requires-2 c κs = search needs
 
 first-of-eight-requires-4 : tie.Need-first-of-eight-requires-4 Inv-loop μ-loop
 first-of-eight-requires-4 c κs = search needs
@@ -798,12 +710,14 @@ loop-again-9 : tie.Need-loop-again-9 Inv-loop μ-loop
 loop-again-9 c =
     let gathered = (gather-of-all-free2 c) in
     let at = (loop-of-all-free2 c) in
-    let none = c .before .first-of-eight4 .ensures ∙ ap (λ (l : List ℕ). firstOfEight (record { slots = l })) (c .before .before .empty3 .ensures) in
-    let bare = (all-idle-of-all-free2 c) .all-idle .ensures .1 (at .loop .outputs) (at .loop .inv .0 .manned .even .outputs-long) ((taken5-of-all-free2 c) .if5 .taken) in
+    let unheld = (taken4-of-all-free2 c) .if4 .taken in
+    let none = c .before .first-of-eight4 .ensures ∙ ap firstOfEight (c .before .before .empty2 .ensures) in
+    let bare = (all-empty-of-all-free2 c) .all-empty .ensures .1 (at .loop .outputs) (at .loop .phases) (unheld-there (taken4-of-all-free2 c)) ((taken5-of-all-free2 c) .if5 .taken) in
     let some = sym ((is-empty2-of-all-free2 c) .is-empty2 .ensures _ _) ∙ (left6-of-all-free2 c) .if6 .left in
+    let long : length (gathered .gather .result .slots) ≡ slotCount = search needs in
     let same = same-links (gathered .gather .kept .1 .1 .1) in (
-      opened-on ((loop-of-all-free2 c) .loop .inv .0 .manned) (close-turn (enum-told2-of-all-free2 c)) (idle-told (taken5-of-all-free2 c)) (gathered .gather .ensures) bare some same
-          ((activity6-of-all-free2 c) .activity6 .ensures .0 emptyBagOf) (c .before .before .before .first-of-eight3 .ensures) none (c .all-free2 .ensures),
+      opened-on ((loop-of-all-free2 c) .loop .inv .0 .manned) (close-turn (enum-told2-of-all-free2 c)) (idle-told (taken5-of-all-free2 c)) (gathered .gather .ensures) bare some long unheld same
+          (c .before .before .before .first-of-eight3 .ensures) none (c .all-free2 .ensures),
       same-then (at .loop .inv .1) same,
     )
 
@@ -814,8 +728,8 @@ loop-again-10 : tie.Need-loop-again-10 Inv-loop μ-loop
 loop-again-10 c =
     let at = (loop-of-left5 c) in
     let args = start-of at .args in
-    let busy = sym (c .before .all-idle .ensures .0 (at .loop .outputs) (at .loop .inv .0 .manned .even .outputs-long) (args .offsets .now) _ _ (at .loop .number)) ∙ c .if5 .left in
-    (busy-told ((loop-of-left5 c) .loop .inv .0 .manned) (close-turn (c .before .before .before)) busy, at .loop .inv .1)
+    let busy = sym (c .before .all-empty .ensures .0 (at .loop .outputs) (at .loop .phases) (unheld-there (c .before .before .before)) (args .offsets .now) _ _ (at .loop .number)) ∙ c .if5 .left in
+    (busy-told ((loop-of-left5 c) .loop .inv .0 .manned) (close-turn (enum-told2-of-left5 c)) busy, at .loop .inv .1)
 
 loop-less-11 : tie.Need-loop-less-11 Inv-loop μ-loop
 loop-less-11 c = search needs
@@ -860,7 +774,6 @@ run-spec =
     Inv-loop
     μ-loop
     open-requires
-    activity-requires
     first-of-eight-requires
     empty-requires
     first-of-eight-requires-2
@@ -873,19 +786,16 @@ run-spec =
     mul-phase
     array-copy-out-phase
     enum-told
-    mul-is-empty
-    array-copy-out-is-empty
+    mul-slots
+    array-copy-out-slots
     is-empty-requires
     mul-begin
-    array-copy-out-begin
+    index-1-begin
     begin-requires
-    mul-inputs
-    array-set-from-inputs
     mul-phases
     array-set-from-phases
-    activity-requires-2
+    held-requires
     add-busy
-    sub-busy
     add-effective
     loop-less
     loop-again
@@ -893,80 +803,60 @@ run-spec =
     loop-again-2
     enum-known-phase
     mul-stow
-    array-copy-out-stow
+    index-1-stow
     stow-requires
-    mul-outputs
-    array-set-from-outputs
     mul-phases-2
     array-set-from-phases-2
-    mul-activity
-    array-copy-out-activity
-    activity-requires-3
+    held-requires-2
     add-busy-2
-    sub-busy-2
+    sub-busy
     add-effective-2
     loop-less-3
     loop-again-3
     advance-requires
     mul-phases-3
     array-set-from-phases-3
-    mul-activity-2
-    array-copy-out-activity-2
-    activity-requires-4
+    held-requires-3
     add-busy-3
-    sub-busy-3
+    sub-busy-2
     add-effective-3
     loop-less-4
     loop-again-4
     enum-known-event-2
-    mul-can-split
-    array-copy-out-can-split
-    mul-can-split-2
-    array-copy-out-can-split-2
+    mul-taken
+    array-copy-out-taken
+    mul-slots-2
+    array-copy-out-slots-2
     can-split-requires
-    mul-activity-3
-    array-copy-out-activity-3
-    mul-activity-4
-    array-copy-out-activity-4
-    activity-requires-5
-    mul-split
-    array-copy-out-split
     split-requires
+    mul-inputs
+    array-set-from-inputs
     mul-inputs-2
     array-set-from-inputs-2
-    mul-inputs-3
-    array-set-from-inputs-3
-    add-busy-4
-    sub-busy-4
     add-effective-4
     loop-less-5
     loop-again-5
     loop-less-6
     loop-again-6
     enum-known-event-3
-    mul-can-unite
-    array-copy-out-can-unite
-    mul-can-unite-2
-    array-copy-out-can-unite-2
+    mul-given
+    array-copy-out-given
+    mul-slots-3
+    array-copy-out-slots-3
     can-unite-requires
-    mul-union
-    array-copy-out-union
-    mul-union-2
-    array-copy-out-union-2
     union-requires
+    mul-outputs
+    array-set-from-outputs
     mul-outputs-2
     array-set-from-outputs-2
-    empty-requires-2
-    mul-outputs-3
-    array-set-from-outputs-3
     add-effective-5
     loop-less-7
     loop-again-7
     loop-less-8
     loop-again-8
     enum-told-2
-    all-idle-requires
-    array-copy-out-gather
+    all-empty-requires
+    array-copy-out-slots-4
     gather-requires
     add-next
     add-counted
@@ -978,9 +868,8 @@ run-spec =
     same-length-4
     same-length-5
     returns
-    activity-requires-6
     first-of-eight-requires-3
-    empty-requires-3
+    empty-requires-2
     first-of-eight-requires-4
     all-free-requires-2
     loop-less-9

@@ -7,8 +7,8 @@ use Rattle.workers.proofs.MoveFacts.{stow-held}
 use Rattle.workers.proofs.moves.stow.Statement.{statement}
 use Rattle.workers.proofs.moves.stow.Tie as tie
 
-insert-requires : tie.Need-insert-requires
-insert-requires c κs = search needs
+insert-into-requires : tie.Need-insert-into-requires
+insert-into-requires c κs = search needs
 
 add-hold : tie.Need-add-hold
 add-hold c = search needs
@@ -26,20 +26,21 @@ same-length-3 : tie.Need-same-length-3
 same-length-3 c = search needs
 
 returns : tie.Need-returns
-returns c = λ input offsets ends stocked.
+returns c =
     let inserted = c .before .before .before .before .before .before .before in
-    let start = inserted .before .before .before .before .before .before .before in
-    let a = start .args in
-    let made = inserted .insert in
-    stow-held (workerFrom input (a .output) (Named (a .vertex) (a .edge) (a .end) (a .target))) (a .vertex) (a .edge) (a .end) (a .target) offsets (a .left .now)
-    (a .right .now) (a .number .now) (made .last .1 .1 .0) (made .last .1 .1 .1 .0) (made .last .1 .1 .1 .1 .0) (made .result) (c .hold .result)
-    refl stocked (made .ensures) (c .hold .ensures offsets ends)
+    let a = inserted .before .before .before .before .before .before .before .before .args in
+    let made = inserted .insert-into in (
+      λ input offsets ends stocked. stow-held (workerFrom input (a .output .now) (Named (a .vertex) (a .edge) (a .end) (a .target))) (a .vertex) (a .edge)
+          (a .end) (a .target) offsets (a .left .now) (a .right .now) (a .number .now) (made .last .1 .1 .0) (made .last .1 .1 .1 .0)
+          (made .last .1 .1 .1 .1 .0) (made .last .0) (c .hold .result) refl stocked (made .ensures .0) (c .hold .ensures offsets ends),
+      made .ensures .1,
+    )
 
 pub stow-spec : {M : Type 1} → statement M
 stow-spec =
     tie.close
     (tie.spec
-    insert-requires
+    insert-into-requires
     add-hold
     hold-requires
     same-length

@@ -1,5 +1,4 @@
--- `bag::none_from` meets its contract. The invariant: nothing is held from `from` on where nothing was met and nothing is held from slot k on.
--- The measure is 16 less k.
+-- `bag::is_empty` meets its contract. The invariant: the bag is empty where nothing was met and nothing is held from slot k on. The measure is 16 less k.
 use borrow.Author.Needs.{needs}
 use mathlib.Core.Path.{_≡_, refl, _∙_, sym}
 use mathlib.Core.Bool.{_&&_}
@@ -10,14 +9,14 @@ use lib.ListN.{length, drop}
 use Rattle.pennant.specs.Bag.{isEmpty}
 use Rattle.bag.specs.Nodes.{nodesOf}
 use Rattle.bag.proofs.FilledFacts.{none-pass, none-filled, none-end}
-use Rattle.bag.proofs.none_from.Statement.{statement}
-use Rattle.bag.proofs.none_from.Tie as tie
+use Rattle.bag.proofs.is_empty.Statement.{statement}
+use Rattle.bag.proofs.is_empty.Tie as tie
 
 abbrev Inv-loop : tie.InvT-loop
-Inv-loop from slots none₀ k₀ none k = (left right : List ℕ) → isEmpty (drop from (nodesOf left right slots)) ≡ none && isEmpty (drop k (nodesOf left right slots))
+Inv-loop bag none₀ k₀ none k = (left right : List ℕ) → isEmpty (nodesOf left right bag) ≡ none && isEmpty (drop k (nodesOf left right bag))
 
 abbrev μ-loop : tie.MeasureT-loop
-μ-loop from slots none₀ k₀ none k = 16 - k
+μ-loop bag none₀ k₀ none k = 16 - k
 
 loop-holds : tie.Need-loop-holds Inv-loop μ-loop
 loop-holds c = λ left right. refl
@@ -51,7 +50,7 @@ returns c =
     let long : length slots ≡ 16 = search needs in
     λ left right. sym (at-loop .loop .inv left right ∙ none-end left right slots (at-loop .loop .k) (at-loop .loop .none) (search needs))
 
-pub none-from-spec : {M : Type 1} → statement M
-none-from-spec =
+pub is-empty-spec : {M : Type 1} → statement M
+is-empty-spec =
     tie.close
     (tie.spec Inv-loop μ-loop loop-holds mul-if1 array-read-if1 add-k loop-less loop-again returns)
