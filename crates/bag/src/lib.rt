@@ -19,6 +19,7 @@ pub use operations::split;
 pub use operations::take;
 pub use operations::take_from;
 pub use operations::union;
+pub use operations::union_into;
 pub use store::pool;
 pub use store::sweep;
 

@@ -71,14 +71,15 @@ pub fn insert(bag: Bag, value: u16, left: &mut [u16], right: &mut [u16], number:
     Bag { slots }
 }
 
-// BAG-UNION of a and b. A slot with nothing to add is passed: FA leaves it as it is and carries
-// nothing.
-pub fn union(a: Bag, b: Bag, left: &mut [u16], right: &mut [u16]) -> Bag
-    requires { ⌜ Pooled (now left) (now right) (a .slots ∷ b .slots ∷ []) ⌝ }
-    ensures { λ r. ⌜ United (now (left .entry)) (now (right .entry)) (a .slots) (b .slots) (now (left .exit)) (now (right .exit)) (r .slots) ⌝ }
+// BAG-UNION of the bag with these slots, where they stand, and another. A slot with nothing to add is
+// passed: FA leaves it as it is and carries nothing.
+pub fn union_into(slots: &mut [u16; 16], other: Bag, left: &mut [u16], right: &mut [u16])
+    requires { ⌜ Pooled (now left) (now right) (now slots ∷ other .slots ∷ []) ⌝ }
+    requires { ⌜ length (now slots) ≡ slotCount ⌝ }
+    ensures { λ _. ⌜ United (now (left .entry)) (now (right .entry)) (now (slots .entry)) (other .slots) (now (left .exit)) (now (right .exit)) (now (slots .exit)) ⌝ }
+    ensures { λ _. ⌜ length (now (slots .exit)) ≡ slotCount ⌝ }
 {
-    let mut slots = a.slots;
-    let others = b.slots;
+    let others = other.slots;
     let mut carry: u16 = 0;
     let mut k = 0;
     while k < 16 {
@@ -89,6 +90,15 @@ pub fn union(a: Bag, b: Bag, left: &mut [u16], right: &mut [u16]) -> Bag
         }
         k += 1;
     }
+}
+
+// BAG-UNION of a and b.
+pub fn union(a: Bag, b: Bag, left: &mut [u16], right: &mut [u16]) -> Bag
+    requires { ⌜ Pooled (now left) (now right) (a .slots ∷ b .slots ∷ []) ⌝ }
+    ensures { λ r. ⌜ United (now (left .entry)) (now (right .entry)) (a .slots) (b .slots) (now (left .exit)) (now (right .exit)) (r .slots) ⌝ }
+{
+    let mut slots = a.slots;
+    union_into(&mut slots, b, left, right);
     Bag { slots }
 }
 

@@ -328,8 +328,8 @@ module _ {P busy : ℕ} {inputs outputs : List (List ℕ)} {phases : List Phase}
     all-pooled = rw (is-from, is-into) at (pair-pool (uniting turn) pastCrew)
 
     -- what the union takes for granted
-    pub unite-able : Pooled left right (getD outputs v pastBag ∷ getD outputs w pastBag ∷ [])
-    unite-able = unite-pool from into all-pooled
+    pub unite-able : Pooled left right (getD outputs v pastBag ∷ getD outputs w pastBag ∷ []) × (length (getD outputs v pastBag) ≡ slotCount)
+    unite-able = (unite-pool from into all-pooled, manned .outputs-full .slots v (omega (arith, few-now, staffed turn .1)))
 
     -- the condition isn't met
     pub unite-unmet-on : (not (isEmpty (nodesOf left right (getD outputs w pastBag))) && not (isEmpty (nodesOf left right (getD outputs v pastBag)))) ≡ false
@@ -354,9 +354,9 @@ module _ {P busy : ℕ} {inputs outputs : List (List ℕ)} {phases : List Phase}
           crew-output (even-output even v united) w emptySlots ∙ ap (λ (l : List Worker). set l w (withOutput from emptySlots)) (crew-output even v united)
 
       -- the run goes on, and as many count
-      unite-cleared : length united ≡ slotCount → SameLengths distances parents left right number distances parents left′ right′ number
+      pub unite-on : length united ≡ slotCount → SameLengths distances parents left right number distances parents left′ right′ number
           → Going source P schedule offsets targets distances parents left′ right′ number inputs outputs′ phases busy (used + 1) (effective + 1) layer
-      unite-cleared long lengths = record {
+      unite-on long lengths = record {
         playing = subst
             (λ (l : List Worker). Playing source P schedule offsets targets distances parents left′ right′ number l (used + 1) (effective + 1) layer)
             (sym united-crew)
@@ -364,13 +364,6 @@ module _ {P busy : ℕ} {inputs outputs : List (List ℕ)} {phases : List Phase}
         manned = manned-two few-now manned (even-output (even-output even v united) w emptySlots) w v (withOutput from emptySlots) (withOutput into united)
             (staffed turn) united-crew refl refl refl (manned .inputs-full) (full-set (full-set (manned .outputs-full) v united long) w emptySlots refl);
       }
-
-      -- with a bag that is found to be empty
-      pub unite-on : {nothing : List ℕ} → nothing ≡ emptySlots → length united ≡ slotCount
-          → SameLengths distances parents left right number distances parents left′ right′ number
-          → Going source P schedule offsets targets distances parents left′ right′ number inputs (set (set outputs v united) w nothing) phases busy
-          (used + 1) (effective + 1) layer
-      unite-on none long lengths = rw none (unite-cleared long lengths)
 
   -- Close.
 

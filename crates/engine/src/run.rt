@@ -117,11 +117,8 @@ pub fn run(
                 let given = outputs[w];
                 let slots = outputs[v];
                 let giver = Bag { slots: given };
-                let taker = Bag { slots };
-                if can_unite(giver, taker) {
-                    let united = bag::union(taker, giver, left, right);
-                    let more = united.slots;
-                    outputs[v] = more;
+                if can_unite(giver, Bag { slots }) {
+                    bag::union_into(&mut outputs[v], giver, left, right);
                     outputs[w] = [0; 16];
                     effective += 1;
                 }

@@ -262,26 +262,29 @@ loop-of-left2 c = c .before .before .before .before .before .before .before .bef
 abbrev event2-of-left2 : tie.Else2 Inv-loop μ-loop → tie.After-event2 Inv-loop μ-loop
 event2-of-left2 c = c .before .before .before .before .before
 
-abbrev loop-of-union-arg2 : tie.After-union-arg2 Inv-loop μ-loop → tie.At-loop Inv-loop μ-loop
-loop-of-union-arg2 c = c .before .before .before .before .before .before .before .before .before .before .before .before
+abbrev event3-of-taken3 : tie.Then3 Inv-loop μ-loop → tie.After-event3 Inv-loop μ-loop
+event3-of-taken3 c = c .before .before .before .before .before
 
-abbrev event3-of-union-arg2 : tie.After-union-arg2 Inv-loop μ-loop → tie.After-event3 Inv-loop μ-loop
-event3-of-union-arg2 c = c .before .before .before .before .before .before .before
+abbrev loop-of-union-into-arg3 : tie.After-union-into-arg3 Inv-loop μ-loop → tie.At-loop Inv-loop μ-loop
+loop-of-union-into-arg3 c = c .before .before .before .before .before .before .before .before .before .before .before .before .before
 
-abbrev event3-of-more : tie.After-more Inv-loop μ-loop → tie.After-event3 Inv-loop μ-loop
-event3-of-more c = c .before .before .before .before .before .before .before .before .before .before .before .before .before
+abbrev event3-of-union-into-arg3 : tie.After-union-into-arg3 Inv-loop μ-loop → tie.After-event3 Inv-loop μ-loop
+event3-of-union-into-arg3 c = c .before .before .before .before .before .before .before .before
 
-abbrev union-of-more : tie.After-more Inv-loop μ-loop → tie.After-union Inv-loop μ-loop
-union-of-more c = c .before .before .before .before .before
+abbrev event3-of-slice-known20 : tie.After-slice-known20 Inv-loop μ-loop → tie.After-event3 Inv-loop μ-loop
+event3-of-slice-known20 c = c .before .before .before .before .before .before .before .before .before .before .before .before .before
 
-abbrev can-unite-of-more : tie.After-more Inv-loop μ-loop → tie.After-can-unite Inv-loop μ-loop
-can-unite-of-more c = c .before .before .before .before .before .before .before .before .before
+abbrev union-into-of-slice-known20 : tie.After-slice-known20 Inv-loop μ-loop → tie.After-union-into Inv-loop μ-loop
+union-into-of-slice-known20 c = c .before .before .before .before
 
-abbrev taken3-of-more : tie.After-more Inv-loop μ-loop → tie.Then3 Inv-loop μ-loop
-taken3-of-more c = c .before .before .before .before .before .before .before .before
+abbrev can-unite-of-slice-known20 : tie.After-slice-known20 Inv-loop μ-loop → tie.After-can-unite Inv-loop μ-loop
+can-unite-of-slice-known20 c = c .before .before .before .before .before .before .before .before .before
 
-abbrev loop-of-more : tie.After-more Inv-loop μ-loop → tie.At-loop Inv-loop μ-loop
-loop-of-more c = c .before .before .before .before .before .before .before .before .before .before .before .before .before .before .before .before .before .before
+abbrev taken3-of-slice-known20 : tie.After-slice-known20 Inv-loop μ-loop → tie.Then3 Inv-loop μ-loop
+taken3-of-slice-known20 c = c .before .before .before .before .before .before .before .before
+
+abbrev loop-of-slice-known20 : tie.After-slice-known20 Inv-loop μ-loop → tie.At-loop Inv-loop μ-loop
+loop-of-slice-known20 c = c .before .before .before .before .before .before .before .before .before .before .before .before .before .before .before .before .before .before
 
 abbrev loop-of-left3 : tie.Else3 Inv-loop μ-loop → tie.At-loop Inv-loop μ-loop
 loop-of-left3 c = c .before .before .before .before .before .before .before .before .before .before
@@ -605,35 +608,34 @@ array-copy-out-slots-3 c = unite-places (c .before .before) .1
 can-unite-requires : tie.Need-can-unite-requires Inv-loop μ-loop
 can-unite-requires c κs = search needs
 
-union-requires : tie.Need-union-requires Inv-loop μ-loop
-union-requires c κs = unite-able ((loop-of-union-arg2 c) .loop .inv .0 .manned) (unite-turn (event3-of-union-arg2 c))
+mul-union-into : tie.Need-mul-union-into Inv-loop μ-loop
+mul-union-into c = record { fits = omega (arith, unite-places (event3-of-taken3 c) .1) }
+
+index-1-union-into : tie.Need-index-1-union-into Inv-loop μ-loop
+index-1-union-into c = unite-places (event3-of-taken3 c) .1
+
+union-into-requires : tie.Need-union-into-requires Inv-loop μ-loop
+union-into-requires c κs = unite-able ((loop-of-union-into-arg3 c) .loop .inv .0 .manned) (unite-turn (event3-of-union-into-arg3 c))
 
 mul-outputs : tie.Need-mul-outputs Inv-loop μ-loop
-mul-outputs c = record { fits = omega (arith, unite-places (event3-of-more c) .1) }
+mul-outputs c = record { fits = omega (arith, unite-places (event3-of-slice-known20 c) .0) }
 
 array-set-from-outputs : tie.Need-array-set-from-outputs Inv-loop μ-loop
-array-set-from-outputs c = unite-places (event3-of-more c) .1
-
-mul-outputs-2 : tie.Need-mul-outputs-2 Inv-loop μ-loop
-mul-outputs-2 c = record { fits = omega (arith, unite-places (event3-of-more c) .0) }
-
-array-set-from-outputs-2 : tie.Need-array-set-from-outputs-2 Inv-loop μ-loop
-array-set-from-outputs-2 c = unite-places (event3-of-more c) .0
+array-set-from-outputs c = unite-places (event3-of-slice-known20 c) .0
 
 add-effective-5 : tie.Need-add-effective-5 Inv-loop μ-loop
-add-effective-5 c = record { fits = effective-fits (unite-turn (event3-of-more c)) }
+add-effective-5 c = record { fits = effective-fits (unite-turn (event3-of-slice-known20 c)) }
 
 loop-less-7 : tie.Need-loop-less-7 Inv-loop μ-loop
 loop-less-7 c = search needs
 
 loop-again-7 : tie.Need-loop-again-7 Inv-loop μ-loop
 loop-again-7 c =
-    let made = (union-of-more c) in
-    let met = sym ((can-unite-of-more c) .can-unite .ensures _ _) ∙ (taken3-of-more c) .if3 .taken in
-    let long : length (made .union .result .slots) ≡ slotCount = search needs in
-    let same = same-links (made .union .kept .1 .1) in (
-      unite-on ((loop-of-more c) .loop .inv .0 .manned) (unite-turn (event3-of-more c)) met (made .union .ensures) refl long same,
-      same-then ((loop-of-more c) .loop .inv .1) same,
+    let made = (union-into-of-slice-known20 c) in
+    let met = sym ((can-unite-of-slice-known20 c) .can-unite .ensures _ _) ∙ (taken3-of-slice-known20 c) .if3 .taken in
+    let same = same-links (made .union-into .kept .1 .1) in (
+      unite-on ((loop-of-slice-known20 c) .loop .inv .0 .manned) (unite-turn (event3-of-slice-known20 c)) met (made .union-into .ensures .0) (made .union-into .ensures .1) same,
+      same-then ((loop-of-slice-known20 c) .loop .inv .1) same,
     )
 
 loop-less-8 : tie.Need-loop-less-8 Inv-loop μ-loop
@@ -844,11 +846,11 @@ run-spec =
     mul-slots-3
     array-copy-out-slots-3
     can-unite-requires
-    union-requires
+    mul-union-into
+    index-1-union-into
+    union-into-requires
     mul-outputs
     array-set-from-outputs
-    mul-outputs-2
-    array-set-from-outputs-2
     add-effective-5
     loop-less-7
     loop-again-7
