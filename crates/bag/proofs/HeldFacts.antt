@@ -63,17 +63,6 @@ pub held-none : (left right number : List ℕ) → heldBy left right number empt
 unfolding heldBy
 held-none left right number = ap (mapBag (λ x. getD number x 0)) (nodes-empty left right) ∙ map-empty (λ x. getD number x 0)
 
--- whether a bag is empty depends on its slots alone
-empty-from : (left right : List ℕ) (k : ℕ) (slots : List ℕ) → isEmpty (slotsFrom left right k slots) ≡ isEmpty (slotsFrom [] [] k slots)
-unfolding slotsFrom pennantAt isEmpty
-empty-from left right k [] = refl
-empty-from left right k (zero ∷ slots) = empty-from left right (suc k) slots
-empty-from left right k (suc x ∷ slots) = refl
-
-pub empty-any : (left right slots : List ℕ) → isEmpty (nodesOf left right slots) ≡ isEmpty (nodesOf [] [] slots)
-unfolding nodesOf
-empty-any left right slots = empty-from left right 0 slots
-
 -- an empty bag has nothing in its slots
 bare-from : (left right : List ℕ) (k : ℕ) (slots : List ℕ) → isEmpty (slotsFrom left right k slots) ≡ true → slots ≡ replicate (length slots) 0
 unfolding slotsFrom pennantAt isEmpty
