@@ -191,7 +191,7 @@ module _ (slots : List ℕ) where
       passed-second = λ e j h. ⊎-elim (λ last. ap (λ (i : ℕ). getD slots (i + 8) 0) (omega arith) ∙ empty) (λ below. so-far .passed-second e j below) (side second j);
     }
 
-  -- at the end of both rows all slots are looked at
+  -- at the end of both rows all slots past slot 0 are looked at
   pub seeking-done : (two : Bool) (k : ℕ) → length slots ≡ 16 → 8 ≤ k → Seeking two k k → (left right : List ℕ) → two ≡ atLeastTwo (nodesOf left right slots)
   seeking-done true k long all so-far left right = sym (ap not (so-far .found refl left right)) ∙ two-past (nodesOf left right slots)
   seeking-done false k long all so-far left right =

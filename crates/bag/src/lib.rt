@@ -63,8 +63,8 @@ pub fn is_empty(bag: Bag) -> bool
     none
 }
 
-// Whether the bag holds at least two numbers: a slot past slot 0 is filled. Two rows of eight slots,
-// 1 to 8 and 8 to 15, are looked at at once.
+// Whether the bag holds at least two numbers: a slot past slot 0 is filled. Two rows of eight slots
+// are looked at side by side, 1 to 8 and 8 to 15: a loop over 15 slots is compiled slot by slot.
 pub fn at_least_two(bag: Bag) -> bool
     ensures { λ r. ⌜ ((left right : List ℕ) → r ≡ atLeastTwo (nodesOf left right (bag .slots))) ⌝ }
 {

@@ -144,8 +144,8 @@ pub fn split(bag: Bag, left: &mut [u16], right: &mut [u16]) -> Halves
     }
 }
 
-// Take's splits: the pennant in slot `from` is split `from` times, always keeping the root; the halves
-// fill the slots below, and the slot is left empty.
+// Take's splits, in the slots where they stand: the pennant in slot `from` is split `from` times, always
+// keeping the root; the halves fill the slots below, and the slot is left empty.
 fn spill(slots: &mut [u16; 16], from: usize, left: &mut [u16], right: &[u16])
     requires { ⌜ Pooled (now left) (now right) (now slots ∷ []) ⌝ }
     requires { ⌜ from < 16 ⌝ }
@@ -176,8 +176,8 @@ fn lowest(slots: &[u16; 16]) -> usize
     k
 }
 
-// Takes the root of the pennant in the lowest filled slot, frees its node and gives its number; of the
-// bag with these slots, where they stand.
+// Takes, from the bag with these slots, where they stand, the root of the pennant in the lowest filled
+// slot; frees its node and gives its number.
 pub fn take_from(slots: &mut [u16; 16], left: &mut [u16], right: &[u16], number: &[u16]) -> u16
     requires { ⌜ Pooled (now left) (now right) (now slots ∷ []) ⌝ }
     requires { ⌜ length (now left) ≤ length (now number) ⌝ }

@@ -48,7 +48,7 @@ module _ {P busy : ℕ} {inputs outputs : List (List ℕ)} {phases : List Phase}
   pub busy-few : busy ≤ 8
   busy-few = omega (arith, few, manned .counted, activities-few (take P crew), length-take-le P crew there)
 
-  -- one that isn't idle is among them
+  -- one that holds a vertex is among them
   pub busy-some : (w : ℕ) → w < P → activityOf (partsAt inputs outputs phases w) ≡ 1 → 1 ≤ busy
   busy-some w here active =
       omega (arith, active, manned .counted, activity-set crew P pastCrew there w idleOne here, ap activityOf (worker-parts w), idle-inactive)

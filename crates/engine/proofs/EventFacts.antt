@@ -377,12 +377,12 @@ module _ {P busy : ℕ} {inputs outputs : List (List ℕ)} {phases : List Phase}
       manned = manned;
     }
 
-    -- or by the test
+    -- or some input bag isn't empty, by the test
     pub busy-told : allIdle (workersOf offsets left right number (take P crew)) ≡ false
         → Going source P schedule offsets targets distances parents left right number inputs outputs phases busy (used + 1) effective layer
     busy-told some = record { playing = close-unmet turn some; manned = manned }
 
-    -- all are
+    -- all are idle
     module _ (idle : (offsets number : List ℕ) → allIdle (workersOf offsets left right number (take P crew)) ≡ true) where
       -- what gathering takes for granted
       able-now : Gatherable (take P crew) left right

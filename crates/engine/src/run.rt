@@ -99,25 +99,25 @@ pub fn run(
                 }
             }
             Event::Split { taker: w, giver: v } => {
-                let taken = inputs[w];
-                let slots = inputs[v];
-                let giver = Bag { slots };
-                if can_split(Bag { slots: taken }, giver) {
+                let taker_slots = inputs[w];
+                let giver_slots = inputs[v];
+                let giver = Bag { slots: giver_slots };
+                if can_split(Bag { slots: taker_slots }, giver) {
                     let halves = bag::split(giver, left, right);
                     let kept = halves.first;
                     let given = halves.second;
-                    let first = kept.slots;
-                    let second = given.slots;
-                    inputs[v] = first;
-                    inputs[w] = second;
+                    let kept_slots = kept.slots;
+                    let given_slots = given.slots;
+                    inputs[v] = kept_slots;
+                    inputs[w] = given_slots;
                     effective += 1;
                 }
             }
             Event::Unite { giver: w, taker: v } => {
-                let given = outputs[w];
-                let slots = outputs[v];
-                let giver = Bag { slots: given };
-                if can_unite(giver, Bag { slots }) {
+                let giver_slots = outputs[w];
+                let taker_slots = outputs[v];
+                let giver = Bag { slots: giver_slots };
+                if can_unite(giver, Bag { slots: taker_slots }) {
                     bag::union_into(&mut outputs[v], giver, left, right);
                     outputs[w] = [0; 16];
                     effective += 1;

@@ -9,7 +9,7 @@ use Rattle.model.specs.Words.{labelsOf}
 use Rattle.workers.specs.declared.Phase.{Phase}
 use Rattle.workers.specs.declared.Phase.the-variants.{Free, Holding, InHand, Marked, Named}
 
--- a worker: its input bag, its output bag and its phase
+-- a worker: its input bag and its output bag, by their slots, and its phase
 pub record Worker : Type 0 where
   pub input : List ℕ
   pub output : List ℕ

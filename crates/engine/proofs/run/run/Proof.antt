@@ -241,20 +241,20 @@ loop-of-split-arg2 c = c .before .before .before .before .before .before .before
 abbrev event2-of-split-arg2 : tie.After-split-arg2 Inv-loop μ-loop → tie.After-event2 Inv-loop μ-loop
 event2-of-split-arg2 c = c .before .before .before .before .before .before .before
 
-abbrev event2-of-second : tie.After-second Inv-loop μ-loop → tie.After-event2 Inv-loop μ-loop
-event2-of-second c = c .before .before .before .before .before .before .before .before .before .before .before .before .before .before .before .before
+abbrev event2-of-given-slots : tie.After-given-slots Inv-loop μ-loop → tie.After-event2 Inv-loop μ-loop
+event2-of-given-slots c = c .before .before .before .before .before .before .before .before .before .before .before .before .before .before .before .before
 
-abbrev split-of-second : tie.After-second Inv-loop μ-loop → tie.After-split Inv-loop μ-loop
-split-of-second c = c .before .before .before .before .before .before .before .before
+abbrev split-of-given-slots : tie.After-given-slots Inv-loop μ-loop → tie.After-split Inv-loop μ-loop
+split-of-given-slots c = c .before .before .before .before .before .before .before .before
 
-abbrev can-split-of-second : tie.After-second Inv-loop μ-loop → tie.After-can-split Inv-loop μ-loop
-can-split-of-second c = c .before .before .before .before .before .before .before .before .before .before .before .before
+abbrev can-split-of-given-slots : tie.After-given-slots Inv-loop μ-loop → tie.After-can-split Inv-loop μ-loop
+can-split-of-given-slots c = c .before .before .before .before .before .before .before .before .before .before .before .before
 
-abbrev taken2-of-second : tie.After-second Inv-loop μ-loop → tie.Then2 Inv-loop μ-loop
-taken2-of-second c = c .before .before .before .before .before .before .before .before .before .before .before
+abbrev taken2-of-given-slots : tie.After-given-slots Inv-loop μ-loop → tie.Then2 Inv-loop μ-loop
+taken2-of-given-slots c = c .before .before .before .before .before .before .before .before .before .before .before
 
-abbrev loop-of-second : tie.After-second Inv-loop μ-loop → tie.At-loop Inv-loop μ-loop
-loop-of-second c = c .before .before .before .before .before .before .before .before .before .before .before .before .before .before .before .before .before .before .before .before .before
+abbrev loop-of-given-slots : tie.After-given-slots Inv-loop μ-loop → tie.At-loop Inv-loop μ-loop
+loop-of-given-slots c = c .before .before .before .before .before .before .before .before .before .before .before .before .before .before .before .before .before .before .before .before .before
 
 abbrev loop-of-left2 : tie.Else2 Inv-loop μ-loop → tie.At-loop Inv-loop μ-loop
 loop-of-left2 c = c .before .before .before .before .before .before .before .before .before .before
@@ -535,17 +535,17 @@ loop-again-4 c =
 enum-known-event-2 : tie.Need-enum-known-event-2 Inv-loop μ-loop
 enum-known-event-2 c = search needs
 
-mul-taken : tie.Need-mul-taken Inv-loop μ-loop
-mul-taken c = record { fits = omega (arith, split-places (c .before) .0) }
+mul-taker-slots : tie.Need-mul-taker-slots Inv-loop μ-loop
+mul-taker-slots c = record { fits = omega (arith, split-places (c .before) .0) }
 
-array-copy-out-taken : tie.Need-array-copy-out-taken Inv-loop μ-loop
-array-copy-out-taken c = split-places (c .before) .0
+array-copy-out-taker-slots : tie.Need-array-copy-out-taker-slots Inv-loop μ-loop
+array-copy-out-taker-slots c = split-places (c .before) .0
 
-mul-slots-2 : tie.Need-mul-slots-2 Inv-loop μ-loop
-mul-slots-2 c = record { fits = omega (arith, split-places (c .before .before) .1) }
+mul-giver-slots : tie.Need-mul-giver-slots Inv-loop μ-loop
+mul-giver-slots c = record { fits = omega (arith, split-places (c .before .before) .1) }
 
-array-copy-out-slots-2 : tie.Need-array-copy-out-slots-2 Inv-loop μ-loop
-array-copy-out-slots-2 c = split-places (c .before .before) .1
+array-copy-out-giver-slots : tie.Need-array-copy-out-giver-slots Inv-loop μ-loop
+array-copy-out-giver-slots c = split-places (c .before .before) .1
 
 can-split-requires : tie.Need-can-split-requires Inv-loop μ-loop
 can-split-requires c κs = search needs
@@ -554,32 +554,32 @@ split-requires : tie.Need-split-requires Inv-loop μ-loop
 split-requires c κs = split-able ((loop-of-split-arg2 c) .loop .inv .0 .manned) (split-turn (event2-of-split-arg2 c))
 
 mul-inputs : tie.Need-mul-inputs Inv-loop μ-loop
-mul-inputs c = record { fits = omega (arith, split-places (event2-of-second c) .1) }
+mul-inputs c = record { fits = omega (arith, split-places (event2-of-given-slots c) .1) }
 
 array-set-from-inputs : tie.Need-array-set-from-inputs Inv-loop μ-loop
-array-set-from-inputs c = split-places (event2-of-second c) .1
+array-set-from-inputs c = split-places (event2-of-given-slots c) .1
 
 mul-inputs-2 : tie.Need-mul-inputs-2 Inv-loop μ-loop
-mul-inputs-2 c = record { fits = omega (arith, split-places (event2-of-second c) .0) }
+mul-inputs-2 c = record { fits = omega (arith, split-places (event2-of-given-slots c) .0) }
 
 array-set-from-inputs-2 : tie.Need-array-set-from-inputs-2 Inv-loop μ-loop
-array-set-from-inputs-2 c = split-places (event2-of-second c) .0
+array-set-from-inputs-2 c = split-places (event2-of-given-slots c) .0
 
 add-effective-4 : tie.Need-add-effective-4 Inv-loop μ-loop
-add-effective-4 c = record { fits = effective-fits (split-turn (event2-of-second c)) }
+add-effective-4 c = record { fits = effective-fits (split-turn (event2-of-given-slots c)) }
 
 loop-less-5 : tie.Need-loop-less-5 Inv-loop μ-loop
 loop-less-5 c = search needs
 
 loop-again-5 : tie.Need-loop-again-5 Inv-loop μ-loop
 loop-again-5 c =
-    let made = (split-of-second c) in
-    let met = sym ((can-split-of-second c) .can-split .ensures _ _) ∙ (taken2-of-second c) .if2 .taken in
+    let made = (split-of-given-slots c) in
+    let met = sym ((can-split-of-given-slots c) .can-split .ensures _ _) ∙ (taken2-of-given-slots c) .if2 .taken in
     let kept-long : length (made .split .result .first .slots) ≡ slotCount = search needs in
     let given-long : length (made .split .result .second .slots) ≡ slotCount = search needs in
     let same = same-links (made .split .kept .1) in (
-      split-on ((loop-of-second c) .loop .inv .0 .manned) (split-turn (event2-of-second c)) met (made .split .ensures) kept-long given-long same,
-      same-then ((loop-of-second c) .loop .inv .1) same,
+      split-on ((loop-of-given-slots c) .loop .inv .0 .manned) (split-turn (event2-of-given-slots c)) met (made .split .ensures) kept-long given-long same,
+      same-then ((loop-of-given-slots c) .loop .inv .1) same,
     )
 
 loop-less-6 : tie.Need-loop-less-6 Inv-loop μ-loop
@@ -593,17 +593,17 @@ loop-again-6 c =
 enum-known-event-3 : tie.Need-enum-known-event-3 Inv-loop μ-loop
 enum-known-event-3 c = search needs
 
-mul-given : tie.Need-mul-given Inv-loop μ-loop
-mul-given c = record { fits = omega (arith, unite-places (c .before) .0) }
+mul-giver-slots-2 : tie.Need-mul-giver-slots-2 Inv-loop μ-loop
+mul-giver-slots-2 c = record { fits = omega (arith, unite-places (c .before) .0) }
 
-array-copy-out-given : tie.Need-array-copy-out-given Inv-loop μ-loop
-array-copy-out-given c = unite-places (c .before) .0
+array-copy-out-giver-slots-2 : tie.Need-array-copy-out-giver-slots-2 Inv-loop μ-loop
+array-copy-out-giver-slots-2 c = unite-places (c .before) .0
 
-mul-slots-3 : tie.Need-mul-slots-3 Inv-loop μ-loop
-mul-slots-3 c = record { fits = omega (arith, unite-places (c .before .before) .1) }
+mul-taker-slots-2 : tie.Need-mul-taker-slots-2 Inv-loop μ-loop
+mul-taker-slots-2 c = record { fits = omega (arith, unite-places (c .before .before) .1) }
 
-array-copy-out-slots-3 : tie.Need-array-copy-out-slots-3 Inv-loop μ-loop
-array-copy-out-slots-3 c = unite-places (c .before .before) .1
+array-copy-out-taker-slots-2 : tie.Need-array-copy-out-taker-slots-2 Inv-loop μ-loop
+array-copy-out-taker-slots-2 c = unite-places (c .before .before) .1
 
 can-unite-requires : tie.Need-can-unite-requires Inv-loop μ-loop
 can-unite-requires c κs = search needs
@@ -652,8 +652,8 @@ enum-told-2 c = search needs
 all-empty-requires : tie.Need-all-empty-requires Inv-loop μ-loop
 all-empty-requires c κs = (close-turn (c .before .before) .playing .ready .accepted .few-workers, (loop-of-inputs c) .loop .inv .0 .manned .inputs-full)
 
-array-copy-out-slots-4 : tie.Need-array-copy-out-slots-4 Inv-loop μ-loop
-array-copy-out-slots-4 c = search needs
+array-copy-out-slots-2 : tie.Need-array-copy-out-slots-2 Inv-loop μ-loop
+array-copy-out-slots-2 c = search needs
 
 gather-requires : tie.Need-gather-requires Inv-loop μ-loop
 gather-requires c κs =
@@ -825,10 +825,10 @@ run-spec =
     loop-less-4
     loop-again-4
     enum-known-event-2
-    mul-taken
-    array-copy-out-taken
-    mul-slots-2
-    array-copy-out-slots-2
+    mul-taker-slots
+    array-copy-out-taker-slots
+    mul-giver-slots
+    array-copy-out-giver-slots
     can-split-requires
     split-requires
     mul-inputs
@@ -841,10 +841,10 @@ run-spec =
     loop-less-6
     loop-again-6
     enum-known-event-3
-    mul-given
-    array-copy-out-given
-    mul-slots-3
-    array-copy-out-slots-3
+    mul-giver-slots-2
+    array-copy-out-giver-slots-2
+    mul-taker-slots-2
+    array-copy-out-taker-slots-2
     can-unite-requires
     mul-union-into
     index-1-union-into
@@ -858,7 +858,7 @@ run-spec =
     loop-again-8
     enum-told-2
     all-empty-requires
-    array-copy-out-slots-4
+    array-copy-out-slots-2
     gather-requires
     add-next
     add-counted
