@@ -10,7 +10,7 @@ use Rattle.lists.proofs.Sums.{sum-set}
 use Rattle.pennant.specs.Pennant.{Slot, gap, tip, pennantUnion}
 use Rattle.pennant.specs.Bag.{Bag, isGap, insertPennant, insertFilled, adderSum, adderCarry, addFrom}
 use Rattle.pennant.specs.Held.{weigh, weighSlot}
-use Rattle.bag.specs.Nodes.{pennantAt, nodesOf}
+use Rattle.bag.specs.Nodes.{pennantAt, slotNodes}
 use Rattle.bag.proofs.Kept.{length-nodes, nodes-at, nodes-set}
 
 -- an insertion goes on past a filled slot
@@ -70,14 +70,14 @@ module _ (f : ℕ → ℕ) where
 
 -- The same of a bag of nodes.
 module _ (left right slots : List ℕ) (k : ℕ) (h : k < length slots) (f : ℕ → ℕ) where
-  within : k < length (nodesOf left right slots)
+  within : k < length (slotNodes left right slots)
   within = rw (length-nodes left right slots) h
 
   -- slot k emptied, and what it held
-  pub slot-weighs : weigh f (nodesOf left right (set slots k 0)) + weighSlot f (pennantAt left right k (getD slots k 0)) ≡ weigh f (nodesOf left right slots)
+  pub slot-weighs : weigh f (slotNodes left right (set slots k 0)) + weighSlot f (pennantAt left right k (getD slots k 0)) ≡ weigh f (slotNodes left right slots)
   unfolding pennantAt weighSlot
-  slot-weighs = rw (nodes-set left right slots k 0, ← (nodes-at left right slots k)) (weigh-set f k (nodesOf left right slots) gap within ∙ omega arith)
+  slot-weighs = rw (nodes-set left right slots k 0, ← (nodes-at left right slots k)) (weigh-set f k (slotNodes left right slots) gap within ∙ omega arith)
 
   -- slot k and those after it
-  pub next-weighs : weigh f (drop k (nodesOf left right slots)) ≡ weighSlot f (pennantAt left right k (getD slots k 0)) + weigh f (drop (suc k) (nodesOf left right slots))
-  next-weighs = rw (nodes-at left right slots k) at (weigh-next f k (nodesOf left right slots) within)
+  pub next-weighs : weigh f (drop k (slotNodes left right slots)) ≡ weighSlot f (pennantAt left right k (getD slots k 0)) + weigh f (drop (suc k) (slotNodes left right slots))
+  next-weighs = rw (nodes-at left right slots k) at (weigh-next f k (slotNodes left right slots) within)

@@ -12,9 +12,10 @@ use Rattle.lists.proofs.Tests.{length-range, getD-range}
 use Rattle.pennant.specs.Bag.{emptyBag}
 use Rattle.pennant.specs.Held.{weigh, one, only}
 use Rattle.pennant.proofs.Laws.{only-self, weigh-empty}
-use Rattle.bag.specs.Nodes.{pennantAt, slotsFrom, nodesOf, freeFrom, freeNodes, emptySlots}
+use Rattle.bag.specs.Nodes.{pennantAt, slotsFrom, slotNodes, freeFrom, freeNodes, emptySlots, newBag}
 use Rattle.bag.specs.Promises.{inPool, weighNodes, weighFree, uses, Pooled}
 use Rattle.bag.proofs.Only.{other-only, in-pool-once, in-pool-within, in-pool-zero, in-pool-past, in-pool-next, in-pool-more}
+use Rattle.bag.proofs.FormedFacts.{all-new}
 use Rattle.bag.proofs.Few.{few-nodes, sum-one}
 
 -- Chains.
@@ -172,25 +173,25 @@ range-whole x a (suc n) =
 
 module _ (left right : List ℕ) where
   -- an empty bag has no nodes
-  pub nodes-empty : nodesOf left right emptySlots ≡ emptyBag
-  unfolding nodesOf slotsFrom pennantAt emptyBag
+  pub nodes-empty : slotNodes left right emptySlots ≡ emptyBag
+  unfolding slotNodes slotsFrom pennantAt emptyBag
   nodes-empty = refl
 
   -- an empty bag weighs nothing
-  pub empty-weight : (f : ℕ → ℕ) → weigh f (nodesOf left right emptySlots) ≡ 0
+  pub empty-weight : (f : ℕ → ℕ) → weigh f (slotNodes left right emptySlots) ≡ 0
   empty-weight f = rw nodes-empty (weigh-empty f)
 
   -- nor do any number of them
-  empties-weight : (f : ℕ → ℕ) (count : ℕ) → weighNodes f left right (replicate count emptySlots) ≡ 0
+  pub weigh-new : (f : ℕ → ℕ) (count : ℕ) → weighNodes f left right (replicate count newBag) ≡ 0
   unfolding weighNodes sumOf
-  empties-weight f zero = refl
-  empties-weight f (suc count) = omega (arith, empty-weight f, empties-weight f count)
+  weigh-new f zero = refl
+  weigh-new f (suc count) = omega (arith, empty-weight f, weigh-new f count)
 
   -- in a new pool each node from 1 on stands in exactly one place, and nothing else does
-  pub pool-whole : (nodes count : ℕ) → freeNodes left ≡ numbersFrom 1 nodes → (x : ℕ) → uses x left right (replicate count emptySlots) ≡ inPool (suc nodes) x
+  pub pool-whole : (nodes count : ℕ) → freeNodes left ≡ numbersFrom 1 nodes → (x : ℕ) → uses x left right (replicate count newBag) ≡ inPool (suc nodes) x
   unfolding weighFree
   pool-whole nodes count chain x =
-      rw chain (omega (arith, empties-weight (only x) count, range-whole x 0 nodes, ap (λ (m : ℕ). inPool (suc m) x) (zero-add nodes), none))
+      rw chain (omega (arith, weigh-new (only x) count, range-whole x 0 nodes, ap (λ (m : ℕ). inPool (suc m) x) (zero-add nodes), none))
     where
       none : inPool 1 x ≡ 0
       none = first x
@@ -201,11 +202,12 @@ module _ (left right : List ℕ) where
 
   -- a new pool with any number of empty bags
   pub pool-free : (nodes count : ℕ) → freeNodes left ≡ numbersFrom 1 nodes → nodes < length left → length left ≤ 65536 → length left ≤ length right
-      → Pooled left right (replicate count emptySlots)
+      → Pooled left right (replicate count newBag)
   unfolding weighFree
   pool-free nodes count chain h few wide = record {
     some = omega arith;
     few = few;
     wide = wide;
     apart = λ x. omega (arith, pool-whole nodes count chain x, in-pool-more (suc nodes) (length left) x h);
+    formed = all-new count;
   }

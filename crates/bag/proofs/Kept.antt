@@ -8,7 +8,7 @@ use lib.ListN.{length, getD, take, drop, set}
 use Rattle.lists.specs.Lists.{sumOf}
 use Rattle.pennant.specs.Pennant.{gap}
 use Rattle.pennant.specs.Held.{weighTree, weighSlot, weigh, only, copies, Complete, Pennant, ShapedFrom, Shaped}
-use Rattle.bag.specs.Nodes.{treeAt, pennantAt, slotsFrom, nodesOf}
+use Rattle.bag.specs.Nodes.{treeAt, pennantAt, slotsFrom, slotNodes}
 use Rattle.pennant.proofs.Laws.{only-self}
 
 module _ (left right left′ right′ : List ℕ) where
@@ -43,8 +43,8 @@ module _ (left right left′ right′ : List ℕ) where
   slots-kept k (x ∷ xs) same = rw (pennant-kept k x (λ i h. same i (omega arith)), slots-kept (suc k) xs (λ i h. same i (omega arith)))
 
   -- a bag whose nodes are as they were
-  pub nodes-kept : (slots : List ℕ) → ((i : ℕ) → 1 ≤ copies i (nodesOf left right slots) → Same i) → nodesOf left′ right′ slots ≡ nodesOf left right slots
-  unfolding nodesOf
+  pub nodes-kept : (slots : List ℕ) → ((i : ℕ) → 1 ≤ copies i (slotNodes left right slots) → Same i) → slotNodes left′ right′ slots ≡ slotNodes left right slots
+  unfolding slotNodes
   nodes-kept slots same = slots-kept 0 slots same
 
 module _ (left right : List ℕ) where
@@ -102,46 +102,46 @@ module _ (left right : List ℕ) where
 
   module _ (slots : List ℕ) where
     -- a bag of nodes has the shape of a bag
-    pub nodes-shaped : Shaped (nodesOf left right slots)
-    unfolding nodesOf
+    pub nodes-shaped : Shaped (slotNodes left right slots)
+    unfolding slotNodes
     nodes-shaped = slots-shaped 0 slots
 
     -- as many slots as nodes are given
-    pub length-nodes : length (nodesOf left right slots) ≡ length slots
-    unfolding nodesOf
+    pub length-nodes : length (slotNodes left right slots) ≡ length slots
+    unfolding slotNodes
     length-nodes = length-slots 0 slots
 
     -- slot k of a bag of nodes
-    pub nodes-at : (k : ℕ) → getD (nodesOf left right slots) k gap ≡ pennantAt left right k (getD slots k 0)
-    unfolding nodesOf
+    pub nodes-at : (k : ℕ) → getD (slotNodes left right slots) k gap ≡ pennantAt left right k (getD slots k 0)
+    unfolding slotNodes
     nodes-at k = slots-at 0 slots k ∙ ap (λ (n : ℕ). pennantAt left right n (getD slots k 0)) (zero-add k)
 
     -- a slot replaced
-    pub nodes-set : (k y : ℕ) → nodesOf left right (set slots k y) ≡ set (nodesOf left right slots) k (pennantAt left right k y)
-    unfolding nodesOf
+    pub nodes-set : (k y : ℕ) → slotNodes left right (set slots k y) ≡ set (slotNodes left right slots) k (pennantAt left right k y)
+    unfolding slotNodes
     nodes-set k y = slots-set 0 slots k y ∙ ap (λ (n : ℕ). set (slotsFrom left right 0 slots) k (pennantAt left right n y)) (zero-add k)
 
     -- the slots from k on
-    pub nodes-drop : (k : ℕ) → drop k (nodesOf left right slots) ≡ slotsFrom left right k (drop k slots)
-    unfolding nodesOf
+    pub nodes-drop : (k : ℕ) → drop k (slotNodes left right slots) ≡ slotsFrom left right k (drop k slots)
+    unfolding slotNodes
     nodes-drop k = slots-drop 0 k slots ∙ ap (λ (n : ℕ). slotsFrom left right n (drop k slots)) (zero-add k)
 
     -- the slots before k
-    pub nodes-take : (k : ℕ) → take k (nodesOf left right slots) ≡ nodesOf left right (take k slots)
-    unfolding nodesOf
+    pub nodes-take : (k : ℕ) → take k (slotNodes left right slots) ≡ slotNodes left right (take k slots)
+    unfolding slotNodes
     nodes-take k = slots-take 0 k slots
 
 module _ (left right left′ right′ : List ℕ) (slots : List ℕ) (k : ℕ) where
   -- the slots from k on, where their nodes are as they were
-  pub drop-kept : ((i : ℕ) → 1 ≤ weigh (only i) (drop k (nodesOf left right slots)) → Same left right left′ right′ i)
-      → drop k (nodesOf left′ right′ slots) ≡ drop k (nodesOf left right slots)
+  pub drop-kept : ((i : ℕ) → 1 ≤ weigh (only i) (drop k (slotNodes left right slots)) → Same left right left′ right′ i)
+      → drop k (slotNodes left′ right′ slots) ≡ drop k (slotNodes left right slots)
   drop-kept same =
       rw (nodes-drop left right slots k, nodes-drop left′ right′ slots k)
       (slots-kept left right left′ right′ k (drop k slots) (λ i h. same i (rw (nodes-drop left right slots k) h)))
 
   -- the slots before k
-  pub take-kept : ((i : ℕ) → 1 ≤ weigh (only i) (take k (nodesOf left right slots)) → Same left right left′ right′ i)
-      → take k (nodesOf left′ right′ slots) ≡ take k (nodesOf left right slots)
+  pub take-kept : ((i : ℕ) → 1 ≤ weigh (only i) (take k (slotNodes left right slots)) → Same left right left′ right′ i)
+      → take k (slotNodes left′ right′ slots) ≡ take k (slotNodes left right slots)
   take-kept same =
       rw (nodes-take left right slots k, nodes-take left′ right′ slots k)
       (nodes-kept left right left′ right′ (take k slots) (λ i h. same i (rw (nodes-take left right slots k) h)))

@@ -1,4 +1,4 @@
--- Facts about bags on node lists that the proofs of the crate's functions go by. Family, Free and HeldFacts are what crates above use.
+-- Facts about bags on node lists that the proofs of the crate's functions go by. Family, FormedFacts, Free and HeldFacts are what crates above use.
 pub mod Only
 pub mod Kept
 pub mod Few
@@ -10,6 +10,7 @@ pub mod UnionFacts
 pub mod SpillFacts
 pub mod ShiftFacts
 pub mod FilledFacts
+pub mod FormedFacts
 pub mod Free
 pub mod HeldFacts
 pub mod Family

@@ -11,7 +11,7 @@ use Rattle.pennant.specs.Pennant.{Slot, gap, pennantUnion}
 use Rattle.pennant.specs.Bag.{Bag, isGap, insertPennant, bagInsert}
 use Rattle.pennant.specs.Held.{weighSlot, weigh, only, copies}
 use Rattle.pennant.proofs.Laws.{weigh-append, weigh-pennant-union, weigh-insert-pennant, weigh-insert}
-use Rattle.bag.specs.Nodes.{treeAt, pennantAt, nodesOf}
+use Rattle.bag.specs.Nodes.{treeAt, pennantAt, slotNodes}
 use Rattle.bag.specs.Promises.{inPool}
 use Rattle.bag.specs.Steps.{Pennants, Loose, Placed}
 use Rattle.bag.proofs.Only.{in-pool-once, in-pool-within}
@@ -32,8 +32,8 @@ none-gap left right k x e = ap (λ (n : ℕ). pennantAt left right k n) e
 module _ (left₀ right₀ slots₀ : List ℕ) (x : ℕ) where
   -- before slot k the insertion is done, from slot k on it is that of the pennant at root
   pub record Placing (left right slots : List ℕ) (root k : ℕ) : Type 0 where
-    pub tree : take k (nodesOf left right slots) ++ insertPennant (pennantAt left right k root) (drop k (nodesOf left right slots)) ≡ bagInsert x (nodesOf left₀ right₀ slots₀)
-    pub kept : (i : ℕ) → only i x + copies i (nodesOf left₀ right₀ slots₀) ≡ 0 → Same left₀ right₀ left right i
+    pub tree : take k (slotNodes left right slots) ++ insertPennant (pennantAt left right k root) (drop k (slotNodes left right slots)) ≡ bagInsert x (slotNodes left₀ right₀ slots₀)
+    pub kept : (i : ℕ) → only i x + copies i (slotNodes left₀ right₀ slots₀) ≡ 0 → Same left₀ right₀ left right i
     pub some : root ≡ 0 → ⊥
     pub below : k < 16
     pub long : length slots ≡ 16
@@ -44,7 +44,7 @@ module _ (left₀ right₀ slots₀ : List ℕ) (x : ℕ) where
   pub placing-start : Loose left₀ right₀ slots₀ x → length slots₀ ≡ 16 → Placing left₀ right₀ slots₀ x 0
   unfolding bagInsert treeAt
   placing-start p l = record {
-    tree = ap (λ (s : Slot). insertPennant s (nodesOf left₀ right₀ slots₀)) (pennant-some left₀ right₀ 0 x (p .some));
+    tree = ap (λ (s : Slot). insertPennant s (slotNodes left₀ right₀ slots₀)) (pennant-some left₀ right₀ 0 x (p .some));
     kept = λ i c. (refl, refl);
     some = p .some;
     below = omega arith;
@@ -59,25 +59,25 @@ module _ (left₀ right₀ slots₀ : List ℕ) (x : ℕ) where
 
   module _ (p : Loose left₀ right₀ slots₀ x) (left right slots : List ℕ) (root k : ℕ) (w : Placing left right slots root k) where
     -- no node is lost or gained
-    placing-weighs : (f : ℕ → ℕ) → weighSlot f (pennantAt left right k root) + weigh f (nodesOf left right slots) ≡ f x + weigh f (nodesOf left₀ right₀ slots₀)
+    placing-weighs : (f : ℕ → ℕ) → weighSlot f (pennantAt left right k root) + weigh f (slotNodes left right slots) ≡ f x + weigh f (slotNodes left₀ right₀ slots₀)
     placing-weighs f =
         omega (
           arith,
           ap (λ (s : Bag). weigh f s) (w .tree),
-          weigh-append f (take k (nodesOf left right slots)) (insertPennant (pennantAt left right k root) (drop k (nodesOf left right slots))),
-          weigh-insert-pennant f (pennantAt left right k root) (drop k (nodesOf left right slots)),
-          weigh-parts f k (nodesOf left right slots),
-          weigh-insert f x (nodesOf left₀ right₀ slots₀),
+          weigh-append f (take k (slotNodes left right slots)) (insertPennant (pennantAt left right k root) (drop k (slotNodes left right slots))),
+          weigh-insert-pennant f (pennantAt left right k root) (drop k (slotNodes left right slots)),
+          weigh-parts f k (slotNodes left right slots),
+          weigh-insert f x (slotNodes left₀ right₀ slots₀),
         )
 
     -- each is used at most once
-    placing-apart : (i : ℕ) → weighSlot (only i) (pennantAt left right k root) + copies i (nodesOf left right slots) ≤ inPool (length left) i
+    placing-apart : (i : ℕ) → weighSlot (only i) (pennantAt left right k root) + copies i (slotNodes left right slots) ≤ inPool (length left) i
     placing-apart i = rw (w .left-length) (omega (arith, placing-weighs (only i), p .apart i))
 
-    filled-within : k < length (nodesOf left right slots)
+    filled-within : k < length (slotNodes left right slots)
     filled-within = rw (length-nodes left right slots) (omega (arith, w .below, w .long))
 
-    slot-counts : (i : ℕ) → weigh (only i) (nodesOf left right (set slots k 0)) + weighSlot (only i) (pennantAt left right k (getD slots k 0)) ≡ copies i (nodesOf left right slots)
+    slot-counts : (i : ℕ) → weigh (only i) (slotNodes left right (set slots k 0)) + weighSlot (only i) (pennantAt left right k (getD slots k 0)) ≡ copies i (slotNodes left right slots)
     slot-counts i = slot-weighs left right slots k (omega (arith, w .below, w .long)) (only i)
 
     -- the pennant in a filled slot and the one on its way are apart
@@ -99,7 +99,7 @@ module _ (left₀ right₀ slots₀ : List ℕ) (x : ℕ) where
       right′ = set right root (getD left (getD slots k 0) 0)
 
       -- the slots that stay are as they were
-      others-kept : nodesOf left′ right′ (set slots k 0) ≡ nodesOf left right (set slots k 0)
+      others-kept : slotNodes left′ right′ (set slots k 0) ≡ slotNodes left right (set slots k 0)
       unfolding left′ right′ sumOf
       others-kept =
           nodes-kept left right left′ right′ (set slots k 0)
@@ -120,7 +120,7 @@ module _ (left₀ right₀ slots₀ : List ℕ) (x : ℕ) where
       placing-step = record {
         tree =
             rw (add-one k, others-kept, whole, nodes-set left right slots k 0)
-            (sym (rw (nodes-at left right slots k) at (insert-pass k (pennantAt left right k root) (nodesOf left right slots) filled-within (ap isGap (nodes-at left right slots k) ∙ some-filled left right k (getD slots k 0) filled)))
+            (sym (rw (nodes-at left right slots k) at (insert-pass k (pennantAt left right k root) (slotNodes left right slots) filled-within (ap isGap (nodes-at left right slots k) ∙ some-filled left right k (getD slots k 0) filled)))
             ∙ w .tree);
         kept = λ i c.
             let same = link-kept left right k (getD slots k 0) root i filled (w .some) (omega (arith, c, placing-weighs (only i), slot-counts i)) in
@@ -138,7 +138,7 @@ module _ (left₀ right₀ slots₀ : List ℕ) (x : ℕ) where
     placing-done empty = record {
       nodes =
           nodes-set left right slots k root
-          ∙ sym (insert-here k (pennantAt left right k root) (nodesOf left right slots) filled-within (ap isGap (nodes-at left right slots k ∙ none-gap left right k (getD slots k 0) empty)))
+          ∙ sym (insert-here k (pennantAt left right k root) (slotNodes left right slots) filled-within (ap isGap (nodes-at left right slots k ∙ none-gap left right k (getD slots k 0) empty)))
           ∙ w .tree;
       kept-left = λ i c. w .kept i c .0;
       kept-right = λ i c. w .kept i c .1;

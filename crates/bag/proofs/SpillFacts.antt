@@ -11,7 +11,7 @@ use Rattle.pennant.specs.Pennant.{gap}
 use Rattle.pennant.specs.Bag.{Bag, spread}
 use Rattle.pennant.specs.Held.{weighSlot, weigh, only, copies}
 use Rattle.pennant.proofs.Laws.{weigh-spread}
-use Rattle.bag.specs.Nodes.{treeAt, pennantAt, nodesOf}
+use Rattle.bag.specs.Nodes.{treeAt, pennantAt, slotNodes, bagWith}
 use Rattle.bag.specs.Promises.{inPool, weighNodes, Pooled}
 use Rattle.bag.specs.Steps.{Pennants, Halved, Spilled}
 use Rattle.bag.proofs.Only.{in-pool-once}
@@ -29,21 +29,21 @@ spread-weighs f left right k root s h =
 module _ (left₀ right slots₀ : List ℕ) (top : ℕ) where
   -- what is to come: the pennant at the root spread over the slots below k
   pub record Spilling (left slots : List ℕ) (k : ℕ) : Type 0 where
-    pub tree : spread k (pennantAt left right k (getD slots₀ top 0)) (drop k (nodesOf left right slots)) ≡ spread top (pennantAt left₀ right top (getD slots₀ top 0)) (gap ∷ drop (suc top) (nodesOf left₀ right slots₀))
-    pub kept : (i : ℕ) → copies i (nodesOf left₀ right slots₀) ≡ 0 → getD left i 0 ≡ getD left₀ i 0
+    pub tree : spread k (pennantAt left right k (getD slots₀ top 0)) (drop k (slotNodes left right slots)) ≡ spread top (pennantAt left₀ right top (getD slots₀ top 0)) (gap ∷ drop (suc top) (slotNodes left₀ right slots₀))
+    pub kept : (i : ℕ) → copies i (slotNodes left₀ right slots₀) ≡ 0 → getD left i 0 ≡ getD left₀ i 0
     pub below : k ≤ top
     pub long : length slots ≡ 16
     pub left-length : length left ≡ length left₀
 
-  module _ (p : Pooled left₀ right (slots₀ ∷ [])) (l : length slots₀ ≡ 16) (h : top < 16) (some : getD slots₀ top 0 ≡ 0 → ⊥) where
-    top-within : top < length (nodesOf left₀ right slots₀)
+  module _ (p : Pooled left₀ right (bagWith slots₀ ∷ [])) (l : length slots₀ ≡ 16) (h : top < 16) (some : getD slots₀ top 0 ≡ 0 → ⊥) where
+    top-within : top < length (slotNodes left₀ right slots₀)
     top-within = rw (length-nodes left₀ right slots₀) (omega arith)
 
     -- at the start: the slot is emptied
     pub spilling-start : Spilling left₀ (set slots₀ top 0) top
     unfolding pennantAt
     spilling-start = record {
-      tree = ap (λ (s : Bag). spread top (pennantAt left₀ right top (getD slots₀ top 0)) s) (ap (λ (s : Bag). drop top s) (nodes-set left₀ right slots₀ top 0) ∙ drop-set (nodesOf left₀ right slots₀) top gap top-within);
+      tree = ap (λ (s : Bag). spread top (pennantAt left₀ right top (getD slots₀ top 0)) s) (ap (λ (s : Bag). drop top s) (nodes-set left₀ right slots₀ top 0) ∙ drop-set (slotNodes left₀ right slots₀) top gap top-within);
       kept = λ i c. refl;
       below = omega arith;
       long = length-set slots₀ top 0 ∙ l;
@@ -52,20 +52,20 @@ module _ (left₀ right slots₀ : List ℕ) (top : ℕ) where
 
     module _ (left slots : List ℕ) (k : ℕ) (w : Spilling left slots k) where
       -- no node is gained
-      spilling-weighs : (f : ℕ → ℕ) → weighSlot f (pennantAt left right k (getD slots₀ top 0)) + weigh f (drop k (nodesOf left right slots)) ≤ weigh f (nodesOf left₀ right slots₀)
+      spilling-weighs : (f : ℕ → ℕ) → weighSlot f (pennantAt left right k (getD slots₀ top 0)) + weigh f (drop k (slotNodes left right slots)) ≤ weigh f (slotNodes left₀ right slots₀)
       unfolding weigh weighSlot sumOf
       spilling-weighs f =
           omega (
             arith,
             ap (λ (s : Bag). weigh f s) (w .tree),
-            spread-weighs f left right k (getD slots₀ top 0) (drop k (nodesOf left right slots)) some,
-            spread-weighs f left₀ right top (getD slots₀ top 0) (gap ∷ drop (suc top) (nodesOf left₀ right slots₀)) some,
-            weigh-parts f top (nodesOf left₀ right slots₀),
+            spread-weighs f left right k (getD slots₀ top 0) (drop k (slotNodes left right slots)) some,
+            spread-weighs f left₀ right top (getD slots₀ top 0) (gap ∷ drop (suc top) (slotNodes left₀ right slots₀)) some,
+            weigh-parts f top (slotNodes left₀ right slots₀),
             next-weighs left₀ right slots₀ top (omega arith) f,
           )
 
       -- each is used at most once
-      spilling-apart : (i : ℕ) → weighSlot (only i) (pennantAt left right k (getD slots₀ top 0)) + weigh (only i) (drop k (nodesOf left right slots)) ≤ inPool (length left) i
+      spilling-apart : (i : ℕ) → weighSlot (only i) (pennantAt left right k (getD slots₀ top 0)) + weigh (only i) (drop k (slotNodes left right slots)) ≤ inPool (length left) i
       unfolding weighNodes sumOf
       spilling-apart i = rw (w .left-length) (omega (arith, spilling-weighs (only i), p .apart i))
 
@@ -86,7 +86,7 @@ module _ (left₀ right slots₀ : List ℕ) (top : ℕ) where
       unfolding spread sumOf
       spilling-step m e left′ half d ll = record {
         tree =
-            ap (λ (s : Bag). spread m (pennantAt left′ right m (getD slots₀ top 0)) s) (ap (λ (s : Bag). drop m s) (nodes-set left′ right slots m half) ∙ drop-set (nodesOf left′ right slots) m (pennantAt left′ right m half) within)
+            ap (λ (s : Bag). spread m (pennantAt left′ right m (getD slots₀ top 0)) s) (ap (λ (s : Bag). drop m s) (nodes-set left′ right slots m half) ∙ drop-set (slotNodes left′ right slots) m (pennantAt left′ right m half) within)
             ∙ rw (d .first, d .second, rest) (rw (← e) at (w .tree));
         kept = λ i c. off i (omega (arith, spilling-weighs (only i), c)) ∙ w .kept i c;
         below = omega (arith, w .below);
@@ -94,13 +94,13 @@ module _ (left₀ right slots₀ : List ℕ) (top : ℕ) where
         left-length = ll ∙ w .left-length;
       }
         where
-          within : m < length (nodesOf left′ right slots)
+          within : m < length (slotNodes left′ right slots)
           within = rw (length-nodes left′ right slots) (omega (arith, w .below, w .long))
 
           off : (i : ℕ) → weighSlot (only i) (pennantAt left right k (getD slots₀ top 0)) ≡ 0 → getD left′ i 0 ≡ getD left i 0
           off i c = d .kept i (rw e (omega arith))
 
-          rest : drop (suc m) (nodesOf left′ right slots) ≡ drop (suc m) (nodesOf left right slots)
+          rest : drop (suc m) (slotNodes left′ right slots) ≡ drop (suc m) (slotNodes left right slots)
           rest = drop-kept left right left′ right slots (suc m) (λ i c. (off i (omega (arith, rw e at c, spilling-apart i, in-pool-once (length left) i)), refl))
 
       -- at the end every slot is filled as it should be

@@ -11,7 +11,7 @@ use Rattle.pennant.specs.Pennant.{Slot, gap}
 use Rattle.pennant.specs.Bag.{Bag, adderSum, addFrom, bagUnion}
 use Rattle.pennant.specs.Held.{weighSlot, weigh, only}
 use Rattle.pennant.proofs.Laws.{weigh-append, weigh-add-from, weigh-union}
-use Rattle.bag.specs.Nodes.{pennantAt, nodesOf}
+use Rattle.bag.specs.Nodes.{pennantAt, slotNodes, bagWith}
 use Rattle.bag.specs.Promises.{inPool, weighNodes, Pooled}
 use Rattle.bag.specs.Steps.{Pennants, Added}
 use Rattle.bag.proofs.Only.{in-pool-once}
@@ -25,8 +25,8 @@ use Rattle.bag.proofs.PlaceFacts.{some-filled, none-gap}
 module _ (left₀ right₀ a b : List ℕ) where
   -- before slot k the union is done, from slot k on it is that with the carry
   pub record Uniting (left right slots : List ℕ) (carry k : ℕ) : Type 0 where
-    pub tree : take k (nodesOf left right slots) ++ addFrom (pennantAt left right k carry) (drop k (nodesOf left right slots)) (drop k (nodesOf left right b)) ≡ bagUnion (nodesOf left₀ right₀ a) (nodesOf left₀ right₀ b)
-    pub kept : (i : ℕ) → weighNodes (only i) left₀ right₀ (a ∷ b ∷ []) ≡ 0 → Same left₀ right₀ left right i
+    pub tree : take k (slotNodes left right slots) ++ addFrom (pennantAt left right k carry) (drop k (slotNodes left right slots)) (drop k (slotNodes left right b)) ≡ bagUnion (slotNodes left₀ right₀ a) (slotNodes left₀ right₀ b)
+    pub kept : (i : ℕ) → weighNodes (only i) left₀ right₀ (bagWith a ∷ bagWith b ∷ []) ≡ 0 → Same left₀ right₀ left right i
     pub below : k ≤ 16
     pub long : length slots ≡ 16
     pub left-length : length left ≡ length left₀
@@ -37,29 +37,29 @@ module _ (left₀ right₀ a b : List ℕ) where
   unfolding bagUnion pennantAt
   uniting-start l = record { tree = refl; kept = λ i c. (refl, refl); below = omega arith; long = l; left-length = refl; right-length = refl }
 
-  module _ (p : Pooled left₀ right₀ (a ∷ b ∷ [])) (l : length b ≡ 16) (left right slots : List ℕ) (carry k : ℕ) (w : Uniting left right slots carry k) where
+  module _ (p : Pooled left₀ right₀ (bagWith a ∷ bagWith b ∷ [])) (l : length b ≡ 16) (left right slots : List ℕ) (carry k : ℕ) (w : Uniting left right slots carry k) where
     -- no node is lost or gained
-    uniting-weighs : (f : ℕ → ℕ) → weigh f (nodesOf left right slots) + weighSlot f (pennantAt left right k carry) + weigh f (drop k (nodesOf left right b)) ≡ weighNodes f left₀ right₀ (a ∷ b ∷ [])
+    uniting-weighs : (f : ℕ → ℕ) → weigh f (slotNodes left right slots) + weighSlot f (pennantAt left right k carry) + weigh f (drop k (slotNodes left right b)) ≡ weighNodes f left₀ right₀ (bagWith a ∷ bagWith b ∷ [])
     unfolding weighNodes sumOf
     uniting-weighs f =
         omega (
           arith,
           ap (λ (s : Bag). weigh f s) (w .tree),
-          weigh-append f (take k (nodesOf left right slots)) (addFrom (pennantAt left right k carry) (drop k (nodesOf left right slots)) (drop k (nodesOf left right b))),
-          weigh-add-from f (pennantAt left right k carry) (drop k (nodesOf left right slots)) (drop k (nodesOf left right b)),
-          weigh-parts f k (nodesOf left right slots),
-          weigh-union f (nodesOf left₀ right₀ a) (nodesOf left₀ right₀ b),
+          weigh-append f (take k (slotNodes left right slots)) (addFrom (pennantAt left right k carry) (drop k (slotNodes left right slots)) (drop k (slotNodes left right b))),
+          weigh-add-from f (pennantAt left right k carry) (drop k (slotNodes left right slots)) (drop k (slotNodes left right b)),
+          weigh-parts f k (slotNodes left right slots),
+          weigh-union f (slotNodes left₀ right₀ a) (slotNodes left₀ right₀ b),
         )
 
     -- each is used at most once
-    uniting-apart : (i : ℕ) → weigh (only i) (nodesOf left right slots) + weighSlot (only i) (pennantAt left right k carry) + weigh (only i) (drop k (nodesOf left right b)) ≤ inPool (length left) i
+    uniting-apart : (i : ℕ) → weigh (only i) (slotNodes left right slots) + weighSlot (only i) (pennantAt left right k carry) + weigh (only i) (drop k (slotNodes left right b)) ≤ inPool (length left) i
     uniting-apart i = rw (w .left-length) (omega (arith, uniting-weighs (only i), p .apart i))
 
     -- past the last slot nothing is carried, and the slots are those of the union
-    pub uniting-done : k ≡ 16 → nodesOf left right slots ≡ bagUnion (nodesOf left₀ right₀ a) (nodesOf left₀ right₀ b)
+    pub uniting-done : k ≡ 16 → slotNodes left right slots ≡ bagUnion (slotNodes left₀ right₀ a) (slotNodes left₀ right₀ b)
     uniting-done e =
-        sym (add-end 16 (nodesOf left right slots) (nodesOf left right b) (length-nodes left right slots ∙ w .long) (length-nodes left right b ∙ l))
-        ∙ ap (λ (y : Slot). take 16 (nodesOf left right slots) ++ addFrom y (drop 16 (nodesOf left right slots)) (drop 16 (nodesOf left right b))) (sym (none carry refl))
+        sym (add-end 16 (slotNodes left right slots) (slotNodes left right b) (length-nodes left right slots ∙ w .long) (length-nodes left right b ∙ l))
+        ∙ ap (λ (y : Slot). take 16 (slotNodes left right slots) ++ addFrom y (drop 16 (slotNodes left right slots)) (drop 16 (slotNodes left right b))) (sym (none carry refl))
         ∙ rw e at (w .tree)
       where
         none : (x : ℕ) → carry ≡ x → pennantAt left right 16 carry ≡ gap
@@ -70,16 +70,16 @@ module _ (left₀ right₀ a b : List ℕ) where
             absurd (omega arith)
 
     module _ (h : k < 16) where
-      slots-within : k < length (nodesOf left right slots)
+      slots-within : k < length (slotNodes left right slots)
       slots-within = rw (length-nodes left right slots) (omega (arith, w .long))
 
-      others-within : k < length (nodesOf left right b)
+      others-within : k < length (slotNodes left right b)
       others-within = rw (length-nodes left right b) (omega arith)
 
-      slot-counts : (f : ℕ → ℕ) → weigh f (nodesOf left right (set slots k 0)) + weighSlot f (pennantAt left right k (getD slots k 0)) ≡ weigh f (nodesOf left right slots)
+      slot-counts : (f : ℕ → ℕ) → weigh f (slotNodes left right (set slots k 0)) + weighSlot f (pennantAt left right k (getD slots k 0)) ≡ weigh f (slotNodes left right slots)
       slot-counts f = slot-weighs left right slots k (omega (arith, w .long)) f
 
-      other-counts : (f : ℕ → ℕ) → weigh f (drop k (nodesOf left right b)) ≡ weighSlot f (pennantAt left right k (getD b k 0)) + weigh f (drop (suc k) (nodesOf left right b))
+      other-counts : (f : ℕ → ℕ) → weigh f (drop k (slotNodes left right b)) ≡ weighSlot f (pennantAt left right k (getD b k 0)) + weigh f (drop (suc k) (slotNodes left right b))
       other-counts f = next-weighs left right b k (omega arith) f
 
       -- the three pennants of slot k are apart
@@ -107,7 +107,7 @@ module _ (left₀ right₀ a b : List ℕ) where
       uniting-step left′ right′ slot carry′ d ll rl = record {
         tree =
             rw (add-one k, d .carried, sums, others)
-            (sym (rw (nodes-at left right slots k, nodes-at left right b k) at (add-pass k (pennantAt left right k carry) (nodesOf left right slots) (nodesOf left right b) slots-within others-within))
+            (sym (rw (nodes-at left right slots k, nodes-at left right b k) at (add-pass k (pennantAt left right k carry) (slotNodes left right slots) (slotNodes left right b) slots-within others-within))
             ∙ w .tree);
         kept = λ i c.
             let same = off i (omega (arith, c, uniting-weighs (only i), slot-counts (only i), other-counts (only i))) in
@@ -123,17 +123,17 @@ module _ (left₀ right₀ a b : List ℕ) where
           off i c = (d .kept-left i (omega arith), d .kept-right i (omega arith))
 
           -- the other slots are as they were
-          slots-same : nodesOf left′ right′ (set slots k 0) ≡ nodesOf left right (set slots k 0)
+          slots-same : slotNodes left′ right′ (set slots k 0) ≡ slotNodes left right (set slots k 0)
           slots-same = nodes-kept left right left′ right′ (set slots k 0) (λ i c. off i (omega (arith, c, uniting-apart i, slot-counts (only i), other-counts (only i), in-pool-once (length left) i)))
 
-          others : drop (suc k) (nodesOf left′ right′ b) ≡ drop (suc k) (nodesOf left right b)
+          others : drop (suc k) (slotNodes left′ right′ b) ≡ drop (suc k) (slotNodes left right b)
           others = drop-kept left right left′ right′ b (suc k) (λ i c. off i (omega (arith, c, uniting-apart i, slot-counts (only i), other-counts (only i), in-pool-once (length left) i)))
 
-          sums : nodesOf left′ right′ (set slots k slot) ≡ set (nodesOf left right slots) k (adderSum (pennantAt left right k (getD slots k 0)) (pennantAt left right k (getD b k 0)) (pennantAt left right k carry))
+          sums : slotNodes left′ right′ (set slots k slot) ≡ set (slotNodes left right slots) k (adderSum (pennantAt left right k (getD slots k 0)) (pennantAt left right k (getD b k 0)) (pennantAt left right k carry))
           sums =
-              ap (λ (xs : List ℕ). nodesOf left′ right′ xs) (sym (set-set slots k 0 slot))
+              ap (λ (xs : List ℕ). slotNodes left′ right′ xs) (sym (set-set slots k 0 slot))
               ∙ nodes-set left′ right′ (set slots k 0) k slot
-              ∙ rw (slots-same, d .sum, nodes-set left right slots k 0) (set-set (nodesOf left right slots) k (pennantAt left right k 0) (adderSum (pennantAt left right k (getD slots k 0)) (pennantAt left right k (getD b k 0)) (pennantAt left right k carry)))
+              ∙ rw (slots-same, d .sum, nodes-set left right slots k 0) (set-set (slotNodes left right slots) k (pennantAt left right k 0) (adderSum (pennantAt left right k (getD slots k 0)) (pennantAt left right k (getD b k 0)) (pennantAt left right k carry)))
 
       -- a slot with nothing to add is passed: its sum is what it holds, and nothing is carried
       pub uniting-pass : getD b k 0 ≡ 0 → carry ≡ 0 → Uniting left right slots carry (k + 1)

@@ -6,28 +6,38 @@ use mathlib.Core.List.{List, [], _∷_}
 use lib.Dec.{ltb}
 use lib.ListN.{length, getD, set}
 use Rattle.lists.specs.Lists.{sumOf}
-use Rattle.pennant.specs.Bag.{bagInsert, bagUnion, splitFirst, splitSecond, takenNumber, takeRest}
+use Rattle.pennant.specs.Bag.{slotCount, bagInsert, bagUnion, splitFirst, splitSecond, takenNumber, takeRest}
 use Rattle.pennant.specs.Held.{weigh, only}
-use Rattle.bag.specs.Nodes.{nodesOf, heldBy, freeNodes, emptySlots}
+use Rattle.bag.specs.declared.Bag as declared
+use Rattle.bag.specs.Nodes.{nodesOf, heldBy, freeNodes, newBag}
 
 -- 1 for a node of a pool with so many places, 0 for 0 and for what lies past the end
 unfoldable pub inPool : ℕ → ℕ → ℕ
 inPool places x = cond (ltb 0 x && ltb x places) 1 0
 
 -- the sum of f over the nodes of a family of bags
-unfoldable pub weighNodes : (ℕ → ℕ) → List ℕ → List ℕ → List (List ℕ) → ℕ
-weighNodes f left right bags = sumOf (λ (slots : List ℕ). weigh f (nodesOf left right slots)) bags
+unfoldable pub weighNodes : (ℕ → ℕ) → List ℕ → List ℕ → List declared.Bag → ℕ
+weighNodes f left right bags = sumOf (λ (bag : declared.Bag). weigh f (nodesOf left right bag)) bags
 
 -- the same over the free chain
 unfoldable pub weighFree : (ℕ → ℕ) → List ℕ → ℕ
 weighFree f left = sumOf f (freeNodes left)
 
 -- how often x stands in the bags and in the free chain
-abbrev pub uses : ℕ → List ℕ → List ℕ → List (List ℕ) → ℕ
+abbrev pub uses : ℕ → List ℕ → List ℕ → List declared.Bag → ℕ
 uses x left right bags = weighNodes (only x) left right bags + weighFree (only x) left
 
+-- "a backbone of 16 slots"
+pub record Formed (bag : declared.Bag) : Type 0 where
+  pub sixteen : length (bag .slots) ≡ slotCount
+
+-- bags that all are such
+abbrev pub AllFormed : List declared.Bag → Type 0
+AllFormed [] = Unit {0}
+AllFormed (bag ∷ bags) = Formed bag × AllFormed bags
+
 -- a well-formed pool with these bags
-pub record Pooled (left right : List ℕ) (bags : List (List ℕ)) : Type 0 where
+pub record Pooled (left right : List ℕ) (bags : List declared.Bag) : Type 0 where
   -- there is a place 0, where the free chain starts
   pub some : 0 < length left
   -- nodes are 16-bit numbers
@@ -36,9 +46,11 @@ pub record Pooled (left right : List ℕ) (bags : List (List ℕ)) : Type 0 wher
   pub wide : length left ≤ length right
   -- each node stands in at most one place of one bag or of the free chain; 0 and what lies past the list stand in none
   pub apart : (x : ℕ) → uses x left right bags ≤ inPool (length left) x
+  -- each bag by itself
+  pub formed : AllFormed bags
 
 -- what an operation on these bags does to the nodes
-pub record Moved (left right : List ℕ) (bags : List (List ℕ)) (left′ right′ : List ℕ) (bags′ : List (List ℕ)) : Type 0 where
+pub record Moved (left right : List ℕ) (bags : List declared.Bag) (left′ right′ : List ℕ) (bags′ : List declared.Bag) : Type 0 where
   -- bags and free chain together have the nodes they had: by every weight they weigh what they did
   pub nodes : (f : ℕ → ℕ) → weighNodes f left′ right′ bags′ + weighFree f left′ ≡ weighNodes f left right bags + weighFree f left
   -- a node of neither keeps its left child (place 0 is no node)
@@ -48,55 +60,57 @@ pub record Moved (left right : List ℕ) (bags : List (List ℕ)) (left′ right
   -- the lists keep their lengths
   pub left-length : length left′ ≡ length left
   pub right-length : length right′ ≡ length right
+  -- each bag afterwards, by itself
+  pub formed : AllFormed bags′
 
 -- insert
-pub record Inserted (left right number slots : List ℕ) (value : ℕ) (left′ right′ number′ slots′ : List ℕ) : Type 0 where
+pub record Inserted (left right values : List ℕ) (bag : declared.Bag) (value : ℕ) (left′ right′ values′ : List ℕ) (bag′ : declared.Bag) : Type 0 where
   -- the first free node is taken off the chain
   pub free : freeNodes left ≡ getD left 0 0 ∷ freeNodes left′
   -- the bag of nodes gains it
-  pub nodes : nodesOf left′ right′ slots′ ≡ bagInsert (getD left 0 0) (nodesOf left right slots)
+  pub nodes : nodesOf left′ right′ bag′ ≡ bagInsert (getD left 0 0) (nodesOf left right bag)
   -- it gets the number
-  pub stored : number′ ≡ set number (getD left 0 0) value
+  pub stored : values′ ≡ set values (getD left 0 0) value
   -- a node that is neither the bag's nor free keeps its number
-  pub kept-number : (x : ℕ) → 0 < x → uses x left right (slots ∷ []) ≡ 0 → getD number′ x 0 ≡ getD number x 0
+  pub kept-value : (x : ℕ) → 0 < x → uses x left right (bag ∷ []) ≡ 0 → getD values′ x 0 ≡ getD values x 0
   -- the bag of numbers held gains the number
-  pub held : heldBy left′ right′ number′ slots′ ≡ bagInsert value (heldBy left right number slots)
+  pub held : heldBy left′ right′ values′ bag′ ≡ bagInsert value (heldBy left right values bag)
   -- no node is lost, and no other is touched
-  pub moved : Moved left right (slots ∷ []) left′ right′ (slots′ ∷ [])
+  pub moved : Moved left right (bag ∷ []) left′ right′ (bag′ ∷ [])
 
 -- union
-pub record United (left right a b left′ right′ slots′ : List ℕ) : Type 0 where
+pub record United (left right : List ℕ) (a b : declared.Bag) (left′ right′ : List ℕ) (bag′ : declared.Bag) : Type 0 where
   -- the free chain is as it was
   pub free : freeNodes left′ ≡ freeNodes left
   -- the two bags of nodes become one
-  pub nodes : nodesOf left′ right′ slots′ ≡ bagUnion (nodesOf left right a) (nodesOf left right b)
+  pub nodes : nodesOf left′ right′ bag′ ≡ bagUnion (nodesOf left right a) (nodesOf left right b)
   -- and so do the bags of numbers held, whatever the numbers are
-  pub held : (number : List ℕ) → heldBy left′ right′ number slots′ ≡ bagUnion (heldBy left right number a) (heldBy left right number b)
+  pub held : (values : List ℕ) → heldBy left′ right′ values bag′ ≡ bagUnion (heldBy left right values a) (heldBy left right values b)
   -- no node is lost, and no other is touched; an empty bag may stand in the place of the second
-  pub moved : Moved left right (a ∷ b ∷ []) left′ right′ (slots′ ∷ emptySlots ∷ [])
+  pub moved : Moved left right (a ∷ b ∷ []) left′ right′ (bag′ ∷ newBag ∷ [])
 
 -- split
-pub record SplitInto (left right slots left′ right′ first second : List ℕ) : Type 0 where
+pub record SplitInto (left right : List ℕ) (bag : declared.Bag) (left′ right′ : List ℕ) (first second : declared.Bag) : Type 0 where
   -- the free chain is as it was
   pub free : freeNodes left′ ≡ freeNodes left
   -- the bag of nodes becomes two
-  pub nodes-first : nodesOf left′ right′ first ≡ splitFirst (nodesOf left right slots)
-  pub nodes-second : nodesOf left′ right′ second ≡ splitSecond (nodesOf left right slots)
+  pub nodes-first : nodesOf left′ right′ first ≡ splitFirst (nodesOf left right bag)
+  pub nodes-second : nodesOf left′ right′ second ≡ splitSecond (nodesOf left right bag)
   -- and so does the bag of numbers held, whatever the numbers are
-  pub held-first : (number : List ℕ) → heldBy left′ right′ number first ≡ splitFirst (heldBy left right number slots)
-  pub held-second : (number : List ℕ) → heldBy left′ right′ number second ≡ splitSecond (heldBy left right number slots)
+  pub held-first : (values : List ℕ) → heldBy left′ right′ values first ≡ splitFirst (heldBy left right values bag)
+  pub held-second : (values : List ℕ) → heldBy left′ right′ values second ≡ splitSecond (heldBy left right values bag)
   -- no node is lost, and no other is touched
-  pub moved : Moved left right (slots ∷ []) left′ right′ (first ∷ second ∷ [])
+  pub moved : Moved left right (bag ∷ []) left′ right′ (first ∷ second ∷ [])
 
 -- take
-pub record TakenFrom (left right number slots left′ slots′ : List ℕ) (value : ℕ) : Type 0 where
+pub record TakenFrom (left right values : List ℕ) (bag : declared.Bag) (left′ : List ℕ) (bag′ : declared.Bag) (value : ℕ) : Type 0 where
   -- the node that is taken is then the first free one
-  pub free : freeNodes left′ ≡ takenNumber (nodesOf left right slots) ∷ freeNodes left
+  pub free : freeNodes left′ ≡ takenNumber (nodesOf left right bag) ∷ freeNodes left
   -- the bag of nodes is what take leaves
-  pub nodes : nodesOf left′ right slots′ ≡ takeRest (nodesOf left right slots)
+  pub nodes : nodesOf left′ right bag′ ≡ takeRest (nodesOf left right bag)
   -- the answer is the number that take takes from the numbers held
-  pub taken : value ≡ takenNumber (heldBy left right number slots)
+  pub taken : value ≡ takenNumber (heldBy left right values bag)
   -- and of them is left what take leaves
-  pub held : heldBy left′ right number slots′ ≡ takeRest (heldBy left right number slots)
+  pub held : heldBy left′ right values bag′ ≡ takeRest (heldBy left right values bag)
   -- no node is lost, and no other is touched
-  pub moved : Moved left right (slots ∷ []) left′ right (slots′ ∷ [])
+  pub moved : Moved left right (bag ∷ []) left′ right (bag′ ∷ [])

@@ -7,7 +7,7 @@ use Rattle.lists.specs.Lists.{sumOf}
 use Rattle.pennant.specs.Pennant.{gap, pennantFirst, pennantSecond}
 use Rattle.pennant.specs.Bag.{bagInsert, spread, adderSum, adderCarry}
 use Rattle.pennant.specs.Held.{weighSlot, weigh, only, copies}
-use Rattle.bag.specs.Nodes.{pennantAt, nodesOf}
+use Rattle.bag.specs.Nodes.{pennantAt, slotNodes}
 use Rattle.bag.specs.Promises.{inPool}
 
 -- the place of the first number that is not 0, counted from k, or past the end
@@ -65,28 +65,28 @@ pub record Loose (left right slots : List ℕ) (x : ℕ) : Type 0 where
   -- there is a node
   pub some : x ≡ 0 → ⊥
   -- which is not the bag's; each node in at most one place
-  pub apart : (i : ℕ) → only i x + copies i (nodesOf left right slots) ≤ inPool (length left) i
+  pub apart : (i : ℕ) → only i x + copies i (slotNodes left right slots) ≤ inPool (length left) i
 
 -- BAG-INSERT on the lists
 pub record Placed (left right slots : List ℕ) (x : ℕ) (left′ right′ slots′ : List ℕ) : Type 0 where
   -- the bag gains the node
-  pub nodes : nodesOf left′ right′ slots′ ≡ bagInsert x (nodesOf left right slots)
+  pub nodes : slotNodes left′ right′ slots′ ≡ bagInsert x (slotNodes left right slots)
   -- a node that is neither it nor the bag's is unchanged
-  pub kept-left : (i : ℕ) → only i x + copies i (nodesOf left right slots) ≡ 0 → getD left′ i 0 ≡ getD left i 0
-  pub kept-right : (i : ℕ) → only i x + copies i (nodesOf left right slots) ≡ 0 → getD right′ i 0 ≡ getD right i 0
+  pub kept-left : (i : ℕ) → only i x + copies i (slotNodes left right slots) ≡ 0 → getD left′ i 0 ≡ getD left i 0
+  pub kept-right : (i : ℕ) → only i x + copies i (slotNodes left right slots) ≡ 0 → getD right′ i 0 ≡ getD right i 0
 
 -- BAG-SPLIT on the lists, but for the pennant in slot 0
 pub record Shifted (left right slots left′ first second : List ℕ) : Type 0 where
   -- one slot down, what the roots keep
-  pub nodes-first : nodesOf left′ right first ≡ map pennantFirst (drop 1 (nodesOf left right slots)) ++ gap ∷ []
+  pub nodes-first : slotNodes left′ right first ≡ map pennantFirst (drop 1 (slotNodes left right slots)) ++ gap ∷ []
   -- one slot down, what is split off
-  pub nodes-second : nodesOf left′ right second ≡ map pennantSecond (drop 1 (nodesOf left right slots)) ++ gap ∷ []
+  pub nodes-second : slotNodes left′ right second ≡ map pennantSecond (drop 1 (slotNodes left right slots)) ++ gap ∷ []
   -- a node of no pennant past slot 0 is unchanged
-  pub kept : (i : ℕ) → weigh (only i) (drop 1 (nodesOf left right slots)) ≡ 0 → getD left′ i 0 ≡ getD left i 0
+  pub kept : (i : ℕ) → weigh (only i) (drop 1 (slotNodes left right slots)) ≡ 0 → getD left′ i 0 ≡ getD left i 0
 
 -- the pennant of slot k spread over the slots below it
 pub record Spilled (left right slots : List ℕ) (k : ℕ) (left′ slots′ : List ℕ) : Type 0 where
   -- the halves fill the slots below, slot k is empty
-  pub nodes : nodesOf left′ right slots′ ≡ spread k (pennantAt left right k (getD slots k 0)) (gap ∷ drop (suc k) (nodesOf left right slots))
+  pub nodes : slotNodes left′ right slots′ ≡ spread k (pennantAt left right k (getD slots k 0)) (gap ∷ drop (suc k) (slotNodes left right slots))
   -- a node that is not the bag's is unchanged
-  pub kept : (i : ℕ) → copies i (nodesOf left right slots) ≡ 0 → getD left′ i 0 ≡ getD left i 0
+  pub kept : (i : ℕ) → copies i (slotNodes left right slots) ≡ 0 → getD left′ i 0 ≡ getD left i 0

@@ -4,9 +4,10 @@
 // the 16 slots of the bags it is given and, for a filled slot, one or two nodes.
 ghost use mathlib.Core.Path.{_≡_};
 ghost use Prim.Native.Nat.{ℕ};
-ghost use mathlib.Core.List.{List};
+ghost use mathlib.Core.List.{List, [], _∷_};
 ghost use Rattle.pennant.specs.Bag.{isEmpty, atLeastTwo};
-ghost use Rattle.bag.specs.Nodes.{nodesOf, emptySlots};
+ghost use Rattle.bag.specs.Nodes.{heldBy, newBag};
+ghost use Rattle.bag.specs.Promises.{Pooled};
 
 mod adder;
 mod nodes;
@@ -14,12 +15,9 @@ mod operations;
 mod store;
 
 pub use operations::insert;
-pub use operations::insert_into;
 pub use operations::split;
 pub use operations::take;
-pub use operations::take_from;
 pub use operations::union;
-pub use operations::union_into;
 pub use store::pool;
 pub use store::sweep;
 
@@ -34,22 +32,22 @@ pub struct Halves {
     pub second: Bag,
 }
 
-// What take leaves, and the number taken.
+// What take leaves, and the number that it took.
 pub struct Taken {
     pub bag: Bag,
-    pub number: u16,
+    pub value: u16,
 }
 
 // BAG-CREATE.
 pub fn empty() -> Bag
-    ensures { λ r. ⌜ r .slots ≡ emptySlots ⌝ }
+    ensures { λ r. ⌜ r ≡ newBag ⌝ }
 {
     Bag { slots: [0u16; 16] }
 }
 
 // Whether the bag is empty. The loop has no exit, so that all slots are looked at at once.
 pub fn is_empty(bag: Bag) -> bool
-    ensures { λ r. ⌜ ((left right : List ℕ) → r ≡ isEmpty (nodesOf left right (bag .slots))) ⌝ }
+    ensures { λ r. ⌜ ((left right values : List ℕ) → Pooled left right (bag ∷ []) → r ≡ isEmpty (heldBy left right values bag)) ⌝ }
 {
     let slots = bag.slots;
     let mut none = true;
@@ -66,7 +64,7 @@ pub fn is_empty(bag: Bag) -> bool
 // Whether the bag holds at least two numbers: a slot past slot 0 is filled. Two rows of eight slots
 // are looked at side by side, 1 to 8 and 8 to 15: a loop over 15 slots is compiled slot by slot.
 pub fn at_least_two(bag: Bag) -> bool
-    ensures { λ r. ⌜ ((left right : List ℕ) → r ≡ atLeastTwo (nodesOf left right (bag .slots))) ⌝ }
+    ensures { λ r. ⌜ ((left right values : List ℕ) → Pooled left right (bag ∷ []) → r ≡ atLeastTwo (heldBy left right values bag)) ⌝ }
 {
     let slots = bag.slots;
     let mut two = false;

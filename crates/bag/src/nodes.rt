@@ -35,17 +35,17 @@ pub fn halve(x: u16, left: &mut [u16], right: &[u16]) -> u16
 }
 
 // Takes the first free node and stores the number there.
-pub fn allocate(value: u16, left: &mut [u16], number: &mut [u16]) -> u16
+pub fn allocate(value: u16, left: &mut [u16], values: &mut [u16]) -> u16
     requires { ⌜ 0 < length (now left) ⌝ }
     requires { ⌜ getD (now left) 0 0 < length (now left) ⌝ }
-    requires { ⌜ getD (now left) 0 0 < length (now number) ⌝ }
+    requires { ⌜ getD (now left) 0 0 < length (now values) ⌝ }
     ensures { λ r. ⌜ r ≡ getD (now (left .entry)) 0 0 ⌝ }
     ensures { λ r. ⌜ now (left .exit) ≡ set (now (left .entry)) 0 (getD (now (left .entry)) r 0) ⌝ }
-    ensures { λ r. ⌜ now (number .exit) ≡ set (now (number .entry)) r value ⌝ }
+    ensures { λ r. ⌜ now (values .exit) ≡ set (now (values .entry)) r value ⌝ }
 {
     let x = at(left, 0);
     put(left, 0, at(left, x));
-    put(number, x, value);
+    put(values, x, value);
     x
 }
 

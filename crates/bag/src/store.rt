@@ -20,15 +20,15 @@ pub fn pool(left: &mut [u16], nodes: usize)
 }
 
 // Clears the first `places` places of the three lists.
-pub fn sweep(left: &mut [u16], right: &mut [u16], number: &mut [u16], places: usize)
+pub fn sweep(left: &mut [u16], right: &mut [u16], values: &mut [u16], places: usize)
     requires { ⌜ places ≤ length (now left) ⌝ }
     requires { ⌜ places ≤ length (now right) ⌝ }
-    requires { ⌜ places ≤ length (now number) ⌝ }
+    requires { ⌜ places ≤ length (now values) ⌝ }
     ensures { λ _. ⌜ now (left .exit) ≡ overlay (replicate places 0) (now (left .entry)) ⌝ }
     ensures { λ _. ⌜ now (right .exit) ≡ overlay (replicate places 0) (now (right .entry)) ⌝ }
-    ensures { λ _. ⌜ now (number .exit) ≡ overlay (replicate places 0) (now (number .entry)) ⌝ }
+    ensures { λ _. ⌜ now (values .exit) ≡ overlay (replicate places 0) (now (values .entry)) ⌝ }
 {
     lists::clear(left, places);
     lists::clear(right, places);
-    lists::clear(number, places);
+    lists::clear(values, places);
 }

@@ -1,34 +1,41 @@
--- A close in a run: what gathering takes for granted, the next layer's start, and the run's answer where the search is finished or the schedule spent.
+-- A close in a run: when its condition isn't met, what gathering takes for granted, the next layer's start, and the run's answer where the search is
+-- finished or the schedule spent.
 use mathlib.Core.Path.{_≡_, refl, sym, ap, ap₂, subst, _∙_}
 use mathlib.Core.Bool.{Bool, true, false, cond}
-use mathlib.Core.List.{List, map}
-use mathlib.Core.Option.{none, some}
+use mathlib.Core.List.{List, [], _∷_, map}
+use mathlib.Core.Option.{Option, none, some}
 use Prim.Native.Nat.{ℕ, _+_, _≤_}
 use native.Mathlib.Numerals.{add-one}
-use lib.ListN.{length, set, take, drop, replicate, length-map, take-append-drop}
+use lib.ListN.{length, getD, set, take, drop, replicate, length-map, take-append-drop}
 use lib.Seq.{take-all}
-use Rattle.numbers.specs.Numbers.{success, unfinished}
+use Rattle.numbers.specs.Numbers.{maxWorkers, success, unfinished}
+use Rattle.lists.specs.Lists.{someOne}
+use Rattle.lists.proofs.Parts.{getD-repeated}
 use Rattle.lists.proofs.Replaced.{map-replicate}
 use Rattle.pennant.specs.Bag.{Bag, emptyBag, isEmpty}
-use Rattle.bag.specs.Nodes.{nodesOf, heldBy}
-use Rattle.bag.specs.Promises.{Moved}
-use Rattle.bag.proofs.Family.{same-moved, moved-again}
-use Rattle.bag.proofs.HeldFacts.{held-empty, held-none}
+use Rattle.bag.specs.declared.Bag as declared
+use Rattle.bag.specs.Nodes.{heldBy, newBag, pastBag}
+use Rattle.bag.specs.Promises.{Pooled}
+use Rattle.bag.proofs.Family.{pool-front, moved-pool, moved-again}
 use Rattle.schedule.specs.declared.Event.the-variants.{Close}
 use Rattle.model.specs.State as model
 use Rattle.model.specs.Table.{allIdle, unitedOutputs, handedIn, raisedState, endedState, closed, act}
 use Rattle.model.specs.Play.{Run, playFrom, openingRun, play}
 use Rattle.model.specs.Words.{wordOf, labelsOf}
+use Rattle.model.proofs.WordFacts.{words-again}
 use Rattle.model.proofs.Workers.{idle-each}
 use Rattle.model.proofs.Plays.{play-append, play-finished}
+use Rattle.workers.specs.declared.Phase.{Phase}
+use Rattle.workers.specs.Shown.{phaseOf, stateOf}
+use Rattle.workers.specs.Steps.{allEmpty, orElse, Gathered, firstOfEight, allFree}
+use Rattle.workers.proofs.CrewFacts.{crew-long, crew-at}
+use Rattle.workers.proofs.IdleFacts.{idle-as, idle-some}
+use Rattle.workers.proofs.GatherFacts.{inputs-bare, gather-pooled, gathered-moved, gathered-held}
+use Rattle.workers.proofs.OpenedFacts.{opened-workers, opened-moved, opened-unheld, opened-free}
 use Rattle.engine.specs.declared.Answer.{Answer}
-use Rattle.workers.specs.Shown.{Worker, workerOf, workersOf, stateOf, bagsOf}
-use Rattle.workers.specs.Steps.{Fits, NoInputs, Gatherable, Gathered, idleOne, openedCrew}
 use Rattle.engine.specs.Runs.{answerOf, Ran}
-use Rattle.model.proofs.WordFacts.{words-again}
-use Rattle.workers.proofs.CrewFacts.{opened-workers, opened-whole, opened-free}
-use Rattle.engine.proofs.PlayingFacts.{SameLengths, Playing, Turn, graph, now-state, crew-taken, worker-here, worker-shown, placed}
-use Rattle.engine.proofs.PlayingFacts.{next-run, play-on, unmet-on}
+use Rattle.engine.proofs.PlayingFacts.{Given, graph, crew, Going, Turn, now-state, enough, even, held-inputs, held-outputs}
+use Rattle.engine.proofs.PlayingFacts.{shown-phases, some-worker, few-workers, next-run, play-on, unmet-on}
 
 -- the answer and the labels of a run that is known
 ran-as : {r q : Run} {distances parents : List ℕ} {answer : Answer} {number : ℕ} → r ≡ q → answer ≡ answerOf number (q .used) (q .effective) (q .state .layer)
@@ -46,106 +53,141 @@ ran-as {distances = distances} {parents = parents} {answer = answer} same told n
       parents = named;
     })
 
-module _ {source P : ℕ} {schedule offsets targets distances parents left right number : List ℕ} {crew : List Worker} {used effective layer : ℕ} where
-  module _ (at : Playing source P schedule offsets targets distances parents left right number crew used effective layer) where
-    -- what gathering takes for granted
-    pub gather-able : ((offsets number : List ℕ) → allIdle (workersOf offsets left right number (take P crew)) ≡ true) → Gatherable (take P crew) left right
-    gather-able idle = record { some-worker = rw (crew-taken at) (at .ready .accepted .some-worker); pool = at .pool; idle = idle }
+module _ {g : Given} {distances parents left right values : List ℕ} {inputs outputs : List declared.Bag} {phases : List Phase}
+    {busy used effective layer : ℕ} where
+  -- the schedule is spent
+  pub spent-ran : Going g distances parents left right values inputs outputs phases busy used effective layer → length (g .schedule) ≤ used
+      → {answer : Answer} → answer ≡ answerOf unfinished used effective layer
+      → Ran (play (graph g) (g .source) (g .workers) (g .schedule)) distances parents answer
+  unfolding stateOf labelsOf
+  spent-ran at over told =
+      ran-as (ap (play (graph g) (g .source) (g .workers)) (sym (take-all used (g .schedule) over)) ∙ at .same) told refl (sym (words-again distances))
+      (sym (words-again parents))
 
-    -- the schedule is spent
-    pub spent-ran : {answer : Answer} → length schedule ≤ used → answer ≡ answerOf unfinished used effective layer
-        → Ran (play (graph at) source P schedule) distances parents answer
-    unfolding stateOf labelsOf
-    spent-ran over told =
-        ran-as (ap (play (graph at) source P) (sym (take-all used schedule over)) ∙ at .same) told refl (sym (words-again distances))
-        (sym (words-again parents))
-
-  module _ (turn : Turn source P schedule offsets targets distances parents left right number crew used effective layer Close) where
+  module _ (turn : Turn g distances parents left right values inputs outputs phases busy used effective layer Close) where
     -- what holds before the byte
-    abbrev at : Playing source P schedule offsets targets distances parents left right number crew used effective layer
-    at = turn .playing
+    abbrev at : Going g distances parents left right values inputs outputs phases busy used effective layer
+    at = turn .going
 
-    -- some worker isn't idle
-    pub close-unmet : allIdle (workersOf offsets left right number (take P crew)) ≡ false
-        → Playing source P schedule offsets targets distances parents left right number crew (used + 1) effective layer
+    -- the workers
+    abbrev workers : List model.Worker
+    workers = crew g left right values inputs outputs phases
+
+    -- not all are idle
+    close-unmet : allIdle workers ≡ false → Going g distances parents left right values inputs outputs phases busy (used + 1) effective layer
     unfolding act stateOf
-    close-unmet busy = unmet-on turn (ap (λ (met : Bool). cond met (some (closed (now-state at) (unitedOutputs ((now-state at) .workers)))) none) busy)
+    close-unmet busy = unmet-on turn (ap (λ (met : Bool). cond met (some (closed (now-state at) (unitedOutputs workers))) none) busy)
 
-    -- all workers are idle
-    module _ (idle : allIdle (workersOf offsets left right number (take P crew)) ≡ true) {left′ right′ : List ℕ} {b : List ℕ}
-        (gathered : Gathered (take P crew) left right left′ right′ b) where
-      -- what they have gathered
-      abbrev united : Bag
-      united = heldBy left′ right′ number b
+    -- as many of each
+    outputs-same : length (held-outputs at) ≡ length (held-inputs at)
+    outputs-same = even at .outputs-long ∙ sym (even at .inputs-long)
 
-      -- the table has the closed state
-      close-act : act (graph at) (now-state at) Close ≡ some (closed (now-state at) united)
-      unfolding act stateOf
-      close-act =
-          ap (λ (met : Bool). cond met (some (closed (now-state at) (unitedOutputs ((now-state at) .workers)))) none) idle
-          ∙ ap (λ (x : Bag). some (closed (now-state at) x)) (sym (gathered .united offsets number))
+    phases-same : length (take (g .workers) phases) ≡ length (held-inputs at)
+    phases-same = sym (length-map (take (g .workers) phases) (phaseOf (g .offsets))) ∙ even at .phases-long ∙ sym (even at .inputs-long)
 
-      -- by whether the united bag is empty
-      close-as : {f : Bool} → isEmpty (nodesOf left′ right′ b) ≡ f
-          → closed (now-state at) united ≡ cond f (endedState (now-state at)) (raisedState (now-state at) united)
-      unfolding closed
-      close-as h = ap (λ (f : Bool). cond f (endedState (now-state at)) (raisedState (now-state at) united)) (held-empty left′ right′ number b ∙ h)
+    -- some worker holds a vertex
+    pub busy-on : (busy ≡ 0 → ⊥) → Going g distances parents left right values inputs outputs phases busy (used + 1) effective layer
+    busy-on held =
+        close-unmet (idle-some (g .offsets) (held-inputs at) (held-outputs at) (take (g .workers) phases) outputs-same phases-same
+        (λ unheld. held (at .manned ∙ unheld)))
 
-      -- it is not: the layer grows by 1
-      module _ (inputs : NoInputs (take P crew)) (filled : isEmpty (nodesOf left′ right′ b) ≡ false) where
-        -- every worker has handed in its bag and is idle
-        each-idle : map handedIn (workersOf offsets left right number (take P crew)) ≡ replicate P model.idleWorker
-        unfolding workerOf stateOf
+    -- none does
+    module _ (unheld : busy ≡ 0) {empty : Bool}
+        (told : (left right values : List ℕ) → Pooled left right (take (g .workers) inputs) → empty ≡ allEmpty (map (heldBy left right values) (take (g .workers) inputs))) where
+      -- so all are idle if their input bags are empty
+      idle-told : allIdle workers ≡ empty
+      idle-told =
+          idle-as (g .offsets) (held-inputs at) (held-outputs at) (take (g .workers) phases) outputs-same phases-same (sym (at .manned) ∙ unheld)
+          ∙ sym (told left right values (pool-front (take (g .workers) inputs) (take (g .workers) outputs) (at .pool)))
+
+      -- some input bag isn't
+      pub filled-on : empty ≡ false → Going g distances parents left right values inputs outputs phases busy (used + 1) effective layer
+      filled-on filled = close-unmet (idle-told ∙ filled)
+
+      -- they are
+      module _ (bare : empty ≡ true) where
+        all-bare : allEmpty (held-inputs at) ≡ true
+        all-bare = sym (told left right values (pool-front (take (g .workers) inputs) (take (g .workers) outputs) (at .pool))) ∙ bare
+
+        -- what gathering takes for granted
+        pub gather-able : (g .workers ≤ maxWorkers) × Pooled left right (getD inputs 0 pastBag ∷ take (g .workers) outputs)
+        gather-able = (few-workers at, gather-pooled (enough at) (some-worker at) values (at .pool) all-bare)
+
+        -- every worker that has handed in its bag is idle
+        each-idle : map handedIn workers ≡ replicate (g .workers) model.idleWorker
         each-idle =
-            let ws = workersOf offsets left right number (take P crew) in
-            let long : length ws ≡ P = length-map (take P crew) (workerOf offsets left right number) ∙ crew-taken at in
-            map-replicate handedIn model.idleWorker model.idleWorker ws P long
-            (λ j h. let shown = worker-shown at idleOne j h in
-            let bare = rw (worker-here at idleOne j h) at (inputs idleOne j (rw (crew-taken at) h)) in
-            let free = idle-each ws idle j .phase-free in
+            map-replicate handedIn model.idleWorker model.idleWorker workers (g .workers)
+            (crew-long (held-inputs at) (held-outputs at) (shown-phases at) (even at))
+            (λ j h.
             ap₂ (λ (x : Bag) (p : model.Phase). model.workerWith x emptyBag p)
-            (ap {B = Bag} (λ (y : model.Worker). y .input) shown ∙ ap (heldBy left right number) bare ∙ held-none left right number) free)
+            (ap (λ (x : model.Worker). x .input) (crew-at (held-inputs at) (held-outputs at) (shown-phases at) j (even at))
+            ∙ ap (λ (l : List Bag). getD l j emptyBag) (inputs-bare (enough at) (some-worker at) values (at .pool) all-bare)
+            ∙ getD-repeated (g .workers) j emptyBag)
+            (idle-each workers (idle-told ∙ bare) j .phase-free))
 
-        -- the engine's state as the next layer opens
-        raised-after : closed (now-state at) united ≡ stateOf offsets distances parents left′ right′ number (take P (openedCrew b)) (layer + 1)
-        unfolding stateOf
-        raised-after =
-            close-as filled
-            ∙ ap₂ (λ (l : List model.Worker) (k : ℕ). record { labels = labelsOf distances parents; workers = l; layer = k; finished = false })
-            (ap (λ (l : List model.Worker). set l 0 (model.workerWith united emptyBag model.free)) each-idle
-            ∙ sym (opened-workers P b (at .ready .accepted .some-worker) (at .ready .accepted .few-workers) offsets left′ right′ number)) (sym (add-one layer))
+        module _ {left′ right′ : List ℕ} {b : declared.Bag} (gathered : Gathered (getD inputs 0 pastBag) (take (g .workers) outputs) left right left′ right′ b)
+            {none-left : Bool} (found : (left right values : List ℕ) → Pooled left right (b ∷ []) → none-left ≡ isEmpty (heldBy left right values b)) where
+          -- what they have gathered
+          abbrev united : Bag
+          united = heldBy left′ right′ values b
 
-        -- no node is lost
-        raised-moved : Moved left right (bagsOf (take P crew)) left′ right′ (bagsOf (take P (openedCrew b)))
-        raised-moved =
-            let opened = opened-whole P b (at .ready .accepted .some-worker) (at .ready .accepted .few-workers) in
-            moved-again (gathered .moved) (same-moved (λ f. opened f left′ right′))
+          -- the bag is well-formed
+          gathered-pooled : Pooled left′ right′ (b ∷ [])
+          gathered-pooled = moved-pool (gather-pooled (enough at) (some-worker at) values (at .pool) all-bare) (gathered .moved)
 
-        -- the run goes on
-        pub raised-on : {crew′ : List Worker} → SameLengths distances parents left right number distances parents left′ right′ number → crew′ ≡ openedCrew b
-            → Playing source P schedule offsets targets distances parents left′ right′ number crew′ (used + 1) (effective + 1) (layer + 1)
-        raised-on lengths opened =
-            subst
-            (λ (l : List Worker). Playing source P schedule offsets targets distances parents left′ right′ number l (used + 1) (effective + 1) (layer + 1))
-            (sym opened)
-            (play-on turn lengths (sym (at .crew-length)) raised-moved
-            (λ d w h. subst (Fits offsets (length distances)) (sym (opened-free b w d (placed at h))) tt)
-            (close-act ∙ ap some raised-after))
+          -- the table has the closed state, by whether the bag is empty
+          close-act : act (graph g) (now-state at) Close ≡ some (cond none-left (endedState (now-state at)) (raisedState (now-state at) united))
+          unfolding act stateOf closed
+          close-act =
+              ap (λ (met : Bool). cond met (some (closed (now-state at) (unitedOutputs workers))) none) (idle-told ∙ bare)
+              ∙ ap (λ (x : Bag). some (closed (now-state at) x))
+              (sym (gathered-held (enough at) (some-worker at) values (at .pool) all-bare (shown-phases at) (even at .phases-long) gathered))
+              ∙ ap (λ (f : Bool). some (cond f (endedState (now-state at)) (raisedState (now-state at) united))) (sym (found left′ right′ values gathered-pooled))
 
-      -- it is: the search is finished
-      module _ (none-left : isEmpty (nodesOf left′ right′ b) ≡ true) where
-        -- and the rest of the schedule isn't used
-        ended-run : play (graph at) source P schedule ≡ record { state = endedState (now-state at); used = used + 1; effective = effective + 1 }
-        unfolding play
-        ended-run =
-            let rest = drop (used + 1) schedule in
-            ap (play (graph at) source P) (sym (take-append-drop (used + 1) schedule))
-            ∙ play-append (graph at) (openingRun (graph at) source P) (take (used + 1) schedule) rest
-            ∙ ap (λ (r : Run). playFrom (graph at) r rest) (next-run turn (close-act ∙ ap some (close-as none-left)))
-            ∙ play-finished (graph at) (record { state = endedState (now-state at); used = used + 1; effective = effective + 1 }) rest refl
+          -- it is not: the next layer opens
+          pub opened-on : none-left ≡ false → {bare-one : declared.Bag} {inputs′ outputs′ : List declared.Bag} {phases′ : List Phase}
+              → inputs′ ≡ firstOfEight b → bare-one ≡ newBag → outputs′ ≡ firstOfEight bare-one → phases′ ≡ allFree
+              → Going g distances parents left′ right′ values inputs′ outputs′ phases′ busy (used + 1) (effective + 1) (layer + 1)
+          unfolding orElse stateOf
+          opened-on filled first new others free =
+              rw (first, others, new, free)
+              (play-on turn
+              (record {
+                distances-long = at .long .distances-long;
+                parents-long = at .long .parents-long;
+                left-long = gathered .moved .left-length ∙ at .long .left-long;
+                right-long = gathered .moved .right-length ∙ at .long .right-long;
+                values-long = at .long .values-long;
+                inputs-long = refl;
+                outputs-long = refl;
+                phases-long = refl;
+              })
+              (moved-again (gathered-moved (enough at) (some-worker at) values (at .pool) all-bare gathered)
+              (opened-moved (g .workers) (some-worker at) (few-workers at) (gathered-pooled .formed .0)))
+              (λ w h. rw (opened-free w) tt)
+              (unheld ∙ sym (opened-unheld (g .workers) (some-worker at) (few-workers at)))
+              (sym (ap someOne raised))
+              (ap₂ (λ (l : List model.Worker) (k : ℕ). record { labels = labelsOf distances parents; workers = l; layer = k; finished = false })
+              (opened-workers (g .workers) (some-worker at) (few-workers at) (g .offsets) left′ right′ values b
+              ∙ ap (λ (l : List model.Worker). set l 0 (model.workerWith united emptyBag model.free)) (sym each-idle))
+              (add-one layer)
+              ∙ sym (ap (λ (o : Option model.State). orElse o (now-state at)) raised)))
+            where
+              raised : act (graph g) (now-state at) Close ≡ some (raisedState (now-state at) united)
+              raised = close-act ∙ ap (λ (f : Bool). some (cond f (endedState (now-state at)) (raisedState (now-state at) united))) filled
 
-        -- the answer
-        pub ended-ran : {answer : Answer} → answer ≡ answerOf success (used + 1) (effective + 1) layer
-            → Ran (play (graph at) source P schedule) distances parents answer
-        unfolding stateOf labelsOf
-        ended-ran told = ran-as ended-run told refl (sym (words-again distances)) (sym (words-again parents))
+          -- it is: the search is finished, and the rest of the schedule isn't used
+          pub finished-ran : none-left ≡ true → {answer : Answer} → answer ≡ answerOf success (used + 1) (effective + 1) layer
+              → Ran (play (graph g) (g .source) (g .workers) (g .schedule)) distances parents answer
+          unfolding play orElse stateOf labelsOf
+          finished-ran over told =
+              let rest = drop (used + 1) (g .schedule) in
+              let ended : act (graph g) (now-state at) Close ≡ some (endedState (now-state at)) =
+              close-act ∙ ap (λ (f : Bool). some (cond f (endedState (now-state at)) (raisedState (now-state at) united))) over in
+              let last : Run = record { state = endedState (now-state at); used = used + 1; effective = effective + 1 } in
+              ran-as
+              (ap (play (graph g) (g .source) (g .workers)) (sym (take-append-drop (used + 1) (g .schedule)))
+              ∙ play-append (graph g) (openingRun (graph g) (g .source) (g .workers)) (take (used + 1) (g .schedule)) rest
+              ∙ ap (λ (r : Run). playFrom (graph g) r rest) (rw ended at (next-run turn))
+              ∙ play-finished (graph g) last rest refl)
+              told refl (sym (words-again distances)) (sym (words-again parents))

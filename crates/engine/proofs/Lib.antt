@@ -1,8 +1,6 @@
--- Facts of the engine.
+-- Facts about the run that its proof goes by.
 pub mod PlayingFacts
 pub mod StartFacts
 pub mod WorkFacts
 pub mod PairFacts
 pub mod CloseFacts
-pub mod BusyFacts
-pub mod EventFacts

@@ -1,131 +1,146 @@
--- Two workers' exchange in a run, a split or a union: what it takes for granted holds, and after it the engine is where the model is.
-use mathlib.Core.Path.{_≡_, sym, ap, ap₂, subst, _∙_}
+-- Two workers' exchange in a run: what it takes for granted holds, and after it the engine is where the model is, whether its condition was met or not.
+use mathlib.Core.Path.{_≡_, refl, sym, ap, ap₂, _∙_}
 use mathlib.Core.List.{List, [], _∷_}
 use mathlib.Core.Option.{Option, none, some}
 use Prim.Native.Nat.{ℕ, _+_, _<_}
-use lib.ListN.{length, getD, set, take}
-use lib.Seq.{take-set-lt}
-use Rattle.lists.proofs.Replaced.{length-two, set-each}
+use native.Mathlib.Omega.{arith}
+use lib.ListN.{length, getD, set}
+use lib.Seq.{set-getD}
+use Rattle.lists.specs.Lists.{someOne}
+use Rattle.lists.proofs.Replaced.{length-two}
+use Rattle.pennant.specs.Bag.{Bag, emptyBag}
+use Rattle.bag.specs.declared.Bag as declared
+use Rattle.bag.specs.Nodes.{heldBy, pastBag}
 use Rattle.bag.specs.Promises.{Pooled, Moved}
 use Rattle.schedule.specs.declared.Event.{Event}
 use Rattle.schedule.specs.declared.Event.the-variants.{Split, Unite}
 use Rattle.model.specs.State as model
 use Rattle.model.specs.Table.{replaceWorkers, act}
-use Rattle.workers.specs.Shown.{Worker, workerOf, workersOf, stateOf, bagsOf}
-use Rattle.workers.specs.Steps.{Fits, splitPair, unitePair, Exchanged}
-use Rattle.workers.proofs.CrewFacts.{pool-pair, two-moved, two-workers}
-use Rattle.workers.proofs.PutFacts.{putInto, pairState, split-put, unite-put}
-use Rattle.engine.proofs.PlayingFacts.{SameLengths, Playing, Turn, graph, now-state, crew-taken, worker-here, worker-shown, staffed, play-on, unmet-on}
+use Rattle.workers.specs.declared.Phase.{Phase}
+use Rattle.workers.specs.Shown.{crewOf, stateOf}
+use Rattle.workers.specs.Steps.{splitRule, uniteRule, orElse, Exchanged}
+use Rattle.workers.proofs.PairFacts.{putInto, split-act, unite-act}
+use Rattle.workers.proofs.BagsFacts.{bagsOf, inputs-pooled, outputs-pooled, inputs-after, outputs-after}
+use Rattle.engine.proofs.PlayingFacts.{Given, graph, crew, Going, Turn, now-state, enough, even, held-inputs, held-outputs, shown-phases}
+use Rattle.engine.proofs.PlayingFacts.{input-shown, output-shown, staffed, play-on}
 
-module _ {source P : ℕ} {schedule offsets targets distances parents left right number : List ℕ} {crew : List Worker} {used effective layer : ℕ} where
-  -- an event of two workers, by its rule
-  pub record Exchange (at : Playing source P schedule offsets targets distances parents left right number crew used effective layer)
-      (rule : model.Worker → model.Worker → Option (model.Worker × model.Worker)) (w v : ℕ) : Type 0 where
-    pub kind : Event
-    pub turn : Turn source P schedule offsets targets distances parents left right number crew used effective layer kind
-    pub there : (w < P) × (v < P) × (w ≡ v → ⊥)
-    pub table : act (graph at) (now-state at) kind
-        ≡ putInto (pairState (now-state at) w v) (rule (model.workerAt (now-state at .workers) w) (model.workerAt (now-state at .workers) v))
+-- a rule for two bags of a list, and the same for the state: where the rule has nothing, both bags are put back
+module _ (s : model.State) (bags : List Bag) (w v : ℕ) (workers : List Bag → List model.Worker) (is : s .workers ≡ workers bags) where
+  -- the state with two bags replaced
+  abbrev pub putBoth : Bag × Bag → model.State
+  putBoth p = replaceWorkers s (workers (set (set bags v (p .1)) w (p .0)))
 
-  -- a split is one
-  pub splitting : {w v : ℕ} (turn : Turn source P schedule offsets targets distances parents left right number crew used effective layer (Split w v))
-      → Exchange (turn .playing) splitPair w v
-  splitting {w} {v} turn =
-      record { kind = Split w v; turn = turn; there = staffed turn; table = split-put (graph (turn .playing)) (now-state (turn .playing)) w v }
+  pub put-both : (o : Option (Bag × Bag)) {first second : Bag}
+      → _≡_ {A = Bag × Bag} (first, second) (orElse o (getD bags w emptyBag, getD bags v emptyBag))
+      → replaceWorkers s (workers (set (set bags v second) w first)) ≡ orElse (putInto putBoth o) s
+  unfolding orElse
+  put-both none same =
+      ap putBoth same
+      ∙ ap (λ (l : List Bag). replaceWorkers s (workers l))
+      (ap (λ (l : List Bag). set l w (getD bags w emptyBag)) (set-getD bags v emptyBag) ∙ set-getD bags w emptyBag)
+      ∙ ap (replaceWorkers s) (sym is)
+  put-both (some p) same = ap putBoth same
 
-  -- and so is a union
-  pub uniting : {w v : ℕ} (turn : Turn source P schedule offsets targets distances parents left right number crew used effective layer (Unite w v))
-      → Exchange (turn .playing) unitePair w v
-  uniting {w} {v} turn =
-      record { kind = Unite w v; turn = turn; there = staffed turn; table = unite-put (graph (turn .playing)) (now-state (turn .playing)) w v }
+-- as many are there
+some-put : {A B : Type 0} (into : A → B) (o : Option A) → someOne (putInto into o) ≡ someOne o
+some-put into none = refl
+some-put into (some x) = refl
 
-  module _ {at : Playing source P schedule offsets targets distances parents left right number crew used effective layer}
-      {rule : model.Worker → model.Worker → Option (model.Worker × model.Worker)} {w v : ℕ} (event : Exchange at rule w v) (d : Worker) where
-    -- the two workers
-    abbrev first : Worker
-    first = getD crew w d
+module _ {g : Given} {distances parents left right values : List ℕ} {inputs outputs : List declared.Bag} {phases : List Phase}
+    {busy used effective layer : ℕ} {e : Event} (turn : Turn g distances parents left right values inputs outputs phases busy used effective layer e) where
+  -- the state
+  abbrev state : model.State
+  state = now-state (turn .going)
 
-    abbrev second : Worker
-    second = getD crew v d
+  -- an exchange by the rule, if the table goes by it: the run goes on
+  exchange-on : (bags : List Bag) (workers : List Bag → List model.Worker) (is : crew g left right values inputs outputs phases ≡ workers bags) (w v : ℕ)
+      (rule : Option (Bag × Bag)) → act (graph g) state e ≡ putInto (λ (p : Bag × Bag). replaceWorkers state (workers (set (set bags v (p .1)) w (p .0)))) rule
+      → {left′ right′ : List ℕ} {inputs′ outputs′ : List declared.Bag} {first second : Bag} {met : ℕ}
+      → met ≡ someOne rule → _≡_ {A = Bag × Bag} (first, second) (orElse rule (getD bags w emptyBag, getD bags v emptyBag))
+      → crew g left′ right′ values inputs′ outputs′ phases ≡ workers (set (set bags v second) w first)
+      → Moved left right (bagsOf (g .workers) inputs outputs) left′ right′ (bagsOf (g .workers) inputs′ outputs′)
+      → length inputs′ ≡ length inputs → length outputs′ ≡ length outputs
+      → Going g distances parents left′ right′ values inputs′ outputs′ phases busy (used + 1) (effective + met) layer
+  unfolding stateOf
+  exchange-on bags workers is w v rule by-rule counted made crew′ moved same-inputs same-outputs =
+      let now = turn .going in
+      play-on turn
+      (record {
+        distances-long = now .long .distances-long;
+        parents-long = now .long .parents-long;
+        left-long = moved .left-length ∙ now .long .left-long;
+        right-long = moved .right-length ∙ now .long .right-long;
+        values-long = now .long .values-long;
+        inputs-long = same-inputs ∙ now .long .inputs-long;
+        outputs-long = same-outputs ∙ now .long .outputs-long;
+        phases-long = now .long .phases-long;
+      })
+      moved (now .in-rows) (now .manned)
+      (counted ∙ sym (ap someOne by-rule ∙ some-put (putBoth state bags w v workers is) rule))
+      (ap (replaceWorkers state) crew′
+      ∙ put-both state bags w v workers is rule made
+      ∙ sym (ap (λ (o : Option model.State). orElse o state) by-rule))
 
-    -- they are among the first P
-    inside : (w < length (take P crew)) × (v < length (take P crew))
-    inside = (rw (crew-taken at) (event .there .0), rw (crew-taken at) (event .there .1))
+module _ {g : Given} {distances parents left right values : List ℕ} {inputs outputs : List declared.Bag} {phases : List Phase}
+    {busy used effective layer w v : ℕ} where
+  -- Kind 1.
 
-    first-here : getD (take P crew) w d ≡ first
-    first-here = worker-here at d w (event .there .0)
+  module _ (turn : Turn g distances parents left right values inputs outputs phases busy used effective layer (Split w v)) where
+    -- what holds before the byte
+    abbrev now : Going g distances parents left right values inputs outputs phases busy used effective layer
+    now = turn .going
 
-    second-here : getD (take P crew) v d ≡ second
-    second-here = worker-here at d v (event .there .1)
+    -- the two workers are two of eight
+    pub split-places : (w < 8) × (v < 8)
+    split-places = (omega (arith, staffed turn .0, now .ready .accepted .few-workers), omega (arith, staffed turn .1, now .ready .accepted .few-workers))
 
-    -- and stand for the model's
-    first-shown : model.workerAt ((now-state at) .workers) w ≡ workerOf offsets left right number first
-    first-shown = worker-shown at d w (event .there .0)
+    -- what `split` takes for granted
+    pub split-able : Pooled left right (getD inputs v pastBag ∷ getD inputs w pastBag ∷ [])
+    split-able = inputs-pooled (enough now) (now .pool) w v (staffed turn .0) (staffed turn .1) (staffed turn .2)
 
-    second-shown : model.workerAt ((now-state at) .workers) v ≡ workerOf offsets left right number second
-    second-shown = worker-shown at d v (event .there .1)
+    -- the run goes on
+    pub split-on : {left′ right′ : List ℕ} {first second : declared.Bag} {met : ℕ}
+        → Exchanged splitRule (getD inputs w pastBag) (getD inputs v pastBag) left right left′ right′ first second met
+        → Going g distances parents left′ right′ values (set (set inputs v second) w first) outputs phases busy (used + 1) (effective + met) layer
+    unfolding stateOf
+    split-on {left′} {right′} {first} {second} exchanged =
+        let bags = inputs-after (enough now) (now .pool) w v (staffed turn .0) (staffed turn .1) (staffed turn .2) values (exchanged .moved) in
+        let by-rule = split-act (graph g) (now-state now) (held-inputs now) (held-outputs now) (shown-phases now) (even now) refl w v in
+        let at-w = input-shown now w (staffed turn .0) in
+        let at-v = input-shown now v (staffed turn .1) in
+        exchange-on turn (held-inputs now) (λ l. crewOf l (held-outputs now) (shown-phases now)) refl w v
+        (splitRule (heldBy left right values (getD inputs w pastBag)) (heldBy left right values (getD inputs v pastBag)))
+        (rw (at-w, at-v) at by-rule) (exchanged .counted values) (rw (at-w, at-v) (exchanged .made values))
+        (ap₂ (λ (a b : List Bag). crewOf a b (shown-phases now)) (bags .inputs-held) (bags .outputs-held))
+        (bags .moved) (length-two inputs v w second first) refl
 
-    -- what the exchange takes for granted
-    pub pair-pool : Pooled left right (bagsOf (first ∷ second ∷ []))
-    pair-pool = rw (first-here, second-here) at (pool-pair (take P crew) w v d (at .pool) (inside .0) (inside .1) (event .there .2))
+  -- Kind 2.
 
-    -- the event by the rule
-    pair-act : act (graph at) (now-state at) (event .kind)
-        ≡ putInto (pairState (now-state at) w v) (rule (workerOf offsets left right number first) (workerOf offsets left right number second))
-    pair-act = event .table ∙ ap₂ (λ (a b : model.Worker). putInto (pairState (now-state at) w v) (rule a b)) first-shown second-shown
+  module _ (turn : Turn g distances parents left right values inputs outputs phases busy used effective layer (Unite w v)) where
+    -- what holds before the byte
+    abbrev here : Going g distances parents left right values inputs outputs phases busy used effective layer
+    here = turn .going
 
-    -- the rule has nothing for the two
-    pub pair-unmet : rule (workerOf offsets left right number first) (workerOf offsets left right number second) ≡ none
-        → Playing source P schedule offsets targets distances parents left right number crew (used + 1) effective layer
-    pair-unmet nothing = unmet-on (event .turn) (pair-act ∙ ap (putInto (pairState (now-state at) w v)) nothing)
+    -- the two workers are two of eight
+    pub unite-places : (w < 8) × (v < 8)
+    unite-places = (omega (arith, staffed turn .0, here .ready .accepted .few-workers), omega (arith, staffed turn .1, here .ready .accepted .few-workers))
 
-    -- after the exchange
-    module _ {left′ right′ : List ℕ} {x y : Worker} (exchanged : Exchanged rule first second left right left′ right′ x y) where
-      -- the crew
-      abbrev crew′ : List Worker
-      crew′ = set (set crew v y) w x
+    -- what `unite` takes for granted
+    pub unite-able : Pooled left right (getD outputs v pastBag ∷ getD outputs w pastBag ∷ [])
+    unite-able = outputs-pooled (enough here) (here .pool) w v (staffed turn .0) (staffed turn .1) (staffed turn .2)
 
-      -- the two as two of the first P
-      pair-apart : Moved left right (bagsOf (getD (take P crew) w d ∷ getD (take P crew) v d ∷ [])) left′ right′ (bagsOf (x ∷ y ∷ []))
-      pair-apart = rw (first-here, second-here) (exchanged .moved)
-
-      -- the first P workers with them replaced
-      pair-taken : take P crew′ ≡ set (set (take P crew) v y) w x
-      pair-taken = take-set-lt P (set crew v y) w x (event .there .0) ∙ ap (λ (l : List Worker). set l w x) (take-set-lt P crew v y (event .there .1))
-
-      -- the state that the engine is in then
-      abbrev next-state : model.State
-      next-state = stateOf offsets distances parents left′ right′ number (take P crew′) layer
-
-      -- is the one with the two put into it
-      pair-after : pairState (now-state at) w v (workerOf offsets left′ right′ number x, workerOf offsets left′ right′ number y) ≡ next-state
-      unfolding stateOf
-      pair-after =
-          ap (λ (l : List model.Worker). replaceWorkers (now-state at) l)
-          (sym (ap (workersOf offsets left′ right′ number) pair-taken
-          ∙ two-workers offsets left right number left′ right′ (take P crew) w v d x y (at .pool) (inside .0) (inside .1) (event .there .2) pair-apart))
-
-      -- no node is lost
-      pair-moved : Moved left right (bagsOf (take P crew)) left′ right′ (bagsOf (take P crew′))
-      pair-moved =
-          rw pair-taken
-          (two-moved offsets left right number left′ right′ (take P crew) w v d x y (at .pool) (inside .0) (inside .1) (event .there .2) pair-apart)
-
-      -- a worker whose phase fits
-      abbrev Fitted : Worker → Type 0
-      Fitted z = Fits offsets (length distances) (z .phase)
-
-      -- the two are such
-      first-fits : Fitted x
-      first-fits = subst (Fits offsets (length distances)) (sym (exchanged .first-phase)) (at .fits d w (event .there .0))
-
-      second-fits : Fitted y
-      second-fits = subst (Fits offsets (length distances)) (sym (exchanged .second-phase)) (at .fits d v (event .there .1))
-
-      -- the run goes on
-      pub pair-on : SameLengths distances parents left right number distances parents left′ right′ number
-          → Playing source P schedule offsets targets distances parents left′ right′ number crew′ (used + 1) (effective + 1) layer
-      pair-on lengths =
-          play-on (event .turn) lengths (length-two crew v w y x) pair-moved
-          (λ d′. set-each Fitted (λ j. j < P) (set crew v y) w x d′ first-fits (set-each Fitted (λ j. j < P) crew v y d′ second-fits (at .fits d′)))
-          (pair-act ∙ ap (putInto (pairState (now-state at) w v)) (exchanged .made offsets number) ∙ ap some pair-after)
+    -- the run goes on
+    pub unite-on : {left′ right′ : List ℕ} {first second : declared.Bag} {met : ℕ}
+        → Exchanged uniteRule (getD outputs w pastBag) (getD outputs v pastBag) left right left′ right′ first second met
+        → Going g distances parents left′ right′ values inputs (set (set outputs v second) w first) phases busy (used + 1) (effective + met) layer
+    unfolding stateOf
+    unite-on {left′} {right′} {first} {second} exchanged =
+        let bags = outputs-after (enough here) (here .pool) w v (staffed turn .0) (staffed turn .1) (staffed turn .2) values (exchanged .moved) in
+        let by-rule = unite-act (graph g) (now-state here) (held-inputs here) (held-outputs here) (shown-phases here) (even here) refl w v in
+        let at-w = output-shown here w (staffed turn .0) in
+        let at-v = output-shown here v (staffed turn .1) in
+        exchange-on turn (held-outputs here) (λ l. crewOf (held-inputs here) l (shown-phases here)) refl w v
+        (uniteRule (heldBy left right values (getD outputs w pastBag)) (heldBy left right values (getD outputs v pastBag)))
+        (rw (at-w, at-v) at by-rule) (exchanged .counted values) (rw (at-w, at-v) (exchanged .made values))
+        (ap₂ (λ (a b : List Bag). crewOf a b (shown-phases here)) (bags .inputs-held) (bags .outputs-held))
+        (bags .moved) refl (length-two outputs v w second first)

@@ -1,15 +1,25 @@
--- A run before each byte: what holds there, and that it holds one byte later if the engine's lists and workers are what the table says.
+-- A run before each byte: what holds there (Going, the loop's invariant), and that it holds one byte later if the engine's lists, bags and phases
+-- stand for what the table says.
 use mathlib.Core.Path.{_≡_, refl, sym, ap, ap₂, subst, _∙_}
-use mathlib.Core.List.{List}
-use mathlib.Core.Option.{none, some}
+use mathlib.Core.List.{List, map}
+use mathlib.Core.Option.{Option, none, some}
 use Prim.Native.Nat.{ℕ, _+_, _*_, _≤_, _<_}
 use native.Mathlib.Numerals.{add-one}
+use native.Mathlib.Nat.{add-zero, mul-le-mul, le-pred-of-lt}
+use mir.Syntax.{w64}
+use mir.Val.{Fits}
 use native.Mathlib.Omega.{arith}
-use lib.ListN.{length, getD, take}
+use lib.ListN.{length, getD, take, length-map}
 use lib.Seq.{length-take-le, getD-take}
+use Rattle.numbers.specs.Numbers.{maxWorkers, maxEvents}
+use Rattle.lists.specs.Lists.{sumOf, someOne}
 use Rattle.lists.proofs.Replaced.{map-at}
 use Rattle.graph.specs.Graph.{Graph, rowsOf}
+use Rattle.graph.specs.Steps.{GraphRows}
+use Rattle.pennant.specs.Bag.{Bag, emptyBag}
 use Rattle.pennant.specs.Held.{one}
+use Rattle.bag.specs.declared.Bag as declared
+use Rattle.bag.specs.Nodes.{heldBy, pastBag}
 use Rattle.bag.specs.Promises.{Pooled, Moved, weighNodes, weighFree}
 use Rattle.bag.proofs.Family.{moved-pool}
 use Rattle.schedule.specs.Events.{eventOf}
@@ -21,142 +31,158 @@ use Rattle.model.specs.State as model
 use Rattle.model.specs.Table.{act}
 use Rattle.model.specs.Play.{Run, tally, step, play, stateAt}
 use Rattle.model.specs.Call.{nodePlaces}
-use Rattle.model.specs.Demand.{Fitting}
+use Rattle.model.specs.Demand.{Accepted, Fitting}
 use Rattle.model.proofs.Theorem.{demand-holds}
 use Rattle.model.proofs.Used.{play-more}
-use Rattle.workers.specs.Shown.{Worker, workerOf, stateOf, bagsOf}
-use Rattle.workers.specs.Steps.{Fits}
-use Rattle.engine.specs.Runs.{Runnable}
+use Rattle.workers.specs.declared.Phase.{Phase}
+use Rattle.workers.specs.declared.Phase.the-variants.{Free}
+use Rattle.workers.specs.Shown.{crewOf, phaseOf, workersOf, stateOf}
+use Rattle.workers.specs.Steps.{InRows, heldOf, orElse}
+use Rattle.workers.proofs.BagsFacts.{bagsOf, Enough}
+use Rattle.workers.proofs.CrewFacts.{Even, crew-at}
 
--- Lengths.
+-- What a run is given.
 
--- the lists keep their lengths
-pub record SameLengths (distances₀ parents₀ left₀ right₀ number₀ distances parents left right number : List ℕ) : Type 0 where
-  pub of-distances : length distances ≡ length distances₀
-  pub of-parents : length parents ≡ length parents₀
-  pub of-left : length left ≡ length left₀
-  pub of-right : length right ≡ length right₀
-  pub of-number : length number ≡ length number₀
+-- source, number of workers, schedule and rows, and how long the lists are; none of it changes
+pub record Given : Type 0 where
+  pub source : ℕ
+  pub workers : ℕ
+  pub schedule : List ℕ
+  pub offsets : List ℕ
+  pub targets : List ℕ
+  pub vertices : ℕ
+  pub left-long : ℕ
+  pub right-long : ℕ
+  pub values-long : ℕ
 
-module _ {distances₀ parents₀ left₀ right₀ number₀ distances parents left right number : List ℕ} where
-  -- by an equation for each of them
-  pub same-all : {A : Type 0} → (length distances ≡ length distances₀)
-      × ((length parents ≡ length parents₀) × ((length left ≡ length left₀) × ((length right ≡ length right₀) × ((length number ≡ length number₀) × A))))
-      → SameLengths distances₀ parents₀ left₀ right₀ number₀ distances parents left right number
-  same-all (d, (p, (l, (r, (k, rest))))) = record { of-distances = d; of-parents = p; of-left = l; of-right = r; of-number = k }
+-- the graph
+abbrev pub graph : Given → Graph
+graph g = rowsOf (g .offsets) (g .targets)
 
-  module _ (same : SameLengths distances₀ parents₀ left₀ right₀ number₀ distances parents left right number) where
-    -- one step further
-    pub same-then : {distances′ parents′ left′ right′ number′ : List ℕ}
-        → SameLengths distances parents left right number distances′ parents′ left′ right′ number′
-        → SameLengths distances₀ parents₀ left₀ right₀ number₀ distances′ parents′ left′ right′ number′
-    same-then later = record {
-      of-distances = later .of-distances ∙ same .of-distances;
-      of-parents = later .of-parents ∙ same .of-parents;
-      of-left = later .of-left ∙ same .of-left;
-      of-right = later .of-right ∙ same .of-right;
-      of-number = later .of-number ∙ same .of-number;
-    }
-
-    -- a run may go on with them
-    pub runnable-still : {source P : ℕ} {schedule offsets targets : List ℕ}
-        → Runnable source P schedule offsets targets distances₀ parents₀ left₀ right₀ number₀
-        → Runnable source P schedule offsets targets distances parents left right number
-    runnable-still {P = P} ready = record {
-      rows = rw (same .of-distances) (ready .rows);
-      accepted = ready .accepted;
-      few-events = ready .few-events;
-      sized = record {
-        few-vertices = omega (arith, ready .sized .few-vertices, same .of-distances);
-        some-worker = ready .sized .some-worker;
-        few-workers = ready .sized .few-workers;
-        parents-all = omega (arith, ready .sized .parents-all, same .of-parents, same .of-distances);
-        nodes = same .of-left ∙ ready .sized .nodes ∙ ap (λ (k : ℕ). nodePlaces k P) (sym (same .of-distances));
-        wide = omega (arith, ready .sized .wide, same .of-left, same .of-right);
-        numbered = omega (arith, ready .sized .numbered, same .of-left, same .of-number);
-      };
-    }
-
-module _ {distances parents left right number : List ℕ} where
-  -- lists that nothing is done to
-  pub same-start : SameLengths distances parents left right number distances parents left right number
-  same-start = record { of-distances = refl; of-parents = refl; of-left = refl; of-right = refl; of-number = refl }
-
-  -- only the left links are written
-  pub same-left : {left′ : List ℕ} {A : Type 0} → (length left′ ≡ length left) × A
-      → SameLengths distances parents left right number distances parents left′ right number
-  same-left (l, rest) = record { of-distances = refl; of-parents = refl; of-left = l; of-right = refl; of-number = refl }
-
-  -- only the labels
-  pub same-labels : {distances′ parents′ : List ℕ} {A : Type 0} → (length distances′ ≡ length distances) × ((length parents′ ≡ length parents) × A)
-      → SameLengths distances parents left right number distances′ parents′ left right number
-  same-labels (d, (p, rest)) = record { of-distances = d; of-parents = p; of-left = refl; of-right = refl; of-number = refl }
-
-  -- only the nodes
-  pub same-nodes : {left′ right′ number′ : List ℕ} {A : Type 0}
-      → (length left′ ≡ length left) × ((length right′ ≡ length right) × ((length number′ ≡ length number) × A))
-      → SameLengths distances parents left right number distances parents left′ right′ number′
-  same-nodes (l, (r, (k, rest))) = record { of-distances = refl; of-parents = refl; of-left = l; of-right = r; of-number = k }
-
-  -- only the nodes' links
-  pub same-links : {left′ right′ : List ℕ} {A : Type 0} → (length left′ ≡ length left) × ((length right′ ≡ length right) × A)
-      → SameLengths distances parents left right number distances parents left′ right′ number
-  same-links (l, (r, rest)) = record { of-distances = refl; of-parents = refl; of-left = l; of-right = r; of-number = refl }
+-- what holds of it
+pub record Ready (g : Given) : Type 0 where
+  pub rows : GraphRows (g .offsets) (g .targets) (g .vertices)
+  pub accepted : Accepted (graph g) (g .source) (g .workers) (g .schedule)
+  pub few-events : length (g .schedule) ≤ maxEvents
+  pub nodes : g .left-long ≡ nodePlaces (g .vertices) (g .workers)
+  pub wide : g .left-long ≤ g .right-long
+  pub numbered : g .left-long ≤ g .values-long
 
 -- Before each byte.
 
--- the engine's values are those of the model's run over the bytes so far, and its lists are in order
-pub record Playing (source P : ℕ) (schedule offsets targets distances parents left right number : List ℕ) (crew : List Worker)
-    (used effective layer : ℕ) : Type 0 where
-  pub ready : Runnable source P schedule offsets targets distances parents left right number
-  pub within : used ≤ length schedule
-  pub same : play (rowsOf offsets targets) source P (take used schedule)
-      ≡ record { state = stateOf offsets distances parents left right number (take P crew) layer; used = used; effective = effective }
+-- the workers that the engine's bags and phases stand for
+abbrev pub crew : Given → List ℕ → List ℕ → List ℕ → List declared.Bag → List declared.Bag → List Phase → List model.Worker
+crew g left right values inputs outputs phases =
+    workersOf (g .offsets) left right values (take (g .workers) inputs) (take (g .workers) outputs) (take (g .workers) phases)
+
+-- lists of the lengths given, and eight bags, eight bags, eight phases
+pub record Long (g : Given) (distances parents left right values : List ℕ) (inputs outputs : List declared.Bag) (phases : List Phase) : Type 0 where
+  pub distances-long : length distances ≡ g .vertices
+  pub parents-long : length parents ≡ g .vertices
+  pub left-long : length left ≡ g .left-long
+  pub right-long : length right ≡ g .right-long
+  pub values-long : length values ≡ g .values-long
+  pub inputs-long : length inputs ≡ maxWorkers
+  pub outputs-long : length outputs ≡ maxWorkers
+  pub phases-long : length phases ≡ maxWorkers
+
+-- the engine's values before a byte are those of the model's run over the bytes so far, and its lists are in order
+pub record Going (g : Given) (distances parents left right values : List ℕ) (inputs outputs : List declared.Bag) (phases : List Phase)
+    (busy used effective layer : ℕ) : Type 0 where
+  pub ready : Ready g
+  pub long : Long g distances parents left right values inputs outputs phases
+  pub within : used ≤ length (g .schedule)
+  pub same : play (graph g) (g .source) (g .workers) (take used (g .schedule))
+      ≡ record { state = stateOf distances parents (crew g left right values inputs outputs phases) layer; used = used; effective = effective }
   pub counted : effective ≤ used
-  pub crew-length : length crew ≡ 8
-  pub pool : Pooled left right (bagsOf (take P crew))
-  pub whole : weighNodes one left right (bagsOf (take P crew)) + weighFree one left ≡ P * length distances
-  pub fits : (d : Worker) (w : ℕ) → w < P → Fits offsets (length distances) (getD crew w d .phase)
+  pub pool : Pooled left right (bagsOf (g .workers) inputs outputs)
+  pub whole : weighNodes one left right (bagsOf (g .workers) inputs outputs) + weighFree one left ≡ g .workers * g .vertices
+  pub in-rows : (w : ℕ) → w < g .workers → InRows (g .offsets) (g .vertices) (getD phases w Free)
+  -- so many workers hold a vertex
+  pub manned : busy ≡ sumOf heldOf (take (g .workers) phases)
 
 -- and the next byte says e
-pub record Turn (source P : ℕ) (schedule offsets targets distances parents left right number : List ℕ) (crew : List Worker) (used effective layer : ℕ)
-    (e : Event) : Type 0 where
-  pub playing : Playing source P schedule offsets targets distances parents left right number crew used effective layer
-  pub below : used < length schedule
-  pub event : eventOf (getD schedule used 0) ≡ e
+pub record Turn (g : Given) (distances parents left right values : List ℕ) (inputs outputs : List declared.Bag) (phases : List Phase)
+    (busy used effective layer : ℕ) (e : Event) : Type 0 where
+  pub going : Going g distances parents left right values inputs outputs phases busy used effective layer
+  pub below : used < length (g .schedule)
+  pub event : eventOf (getD (g .schedule) used 0) ≡ e
 
-module _ {source P : ℕ} {schedule offsets targets distances parents left right number : List ℕ} {crew : List Worker} {used effective layer : ℕ} where
-  module _ (at : Playing source P schedule offsets targets distances parents left right number crew used effective layer) where
-    -- the graph
-    abbrev pub graph : Graph
-    graph = rowsOf offsets targets
+module _ {g : Given} {distances parents left right values : List ℕ} {inputs outputs : List declared.Bag} {phases : List Phase} {busy used effective layer : ℕ} where
+  module _ (at : Going g distances parents left right values inputs outputs phases busy used effective layer) where
+    -- the number of workers
+    abbrev pub P : ℕ
+    P = g .workers
+
+    pub some-worker : 1 ≤ P
+    some-worker = at .ready .accepted .some-worker
+
+    pub few-workers : P ≤ maxWorkers
+    few-workers = at .ready .accepted .few-workers
 
     -- the model's state
     abbrev pub now-state : model.State
-    now-state = stateOf offsets distances parents left right number (take P crew) layer
+    now-state = stateOf distances parents (crew g left right values inputs outputs phases) layer
 
-    -- P workers
-    pub crew-taken : length (take P crew) ≡ P
-    crew-taken = length-take-le P crew (omega (arith, at .crew-length, at .ready .accepted .few-workers))
+    -- as many bags
+    pub enough : Enough P inputs outputs
+    enough = record {
+      inputs-there = omega (arith, few-workers, at .long .inputs-long);
+      outputs-there = omega (arith, few-workers, at .long .outputs-long);
+    }
+
+    -- and phases
+    pub phases-there : P ≤ length phases
+    phases-there = omega (arith, few-workers, at .long .phases-long)
+
+    -- what they stand for
+    abbrev pub held-inputs : List Bag
+    held-inputs = map (heldBy left right values) (take P inputs)
+
+    abbrev pub held-outputs : List Bag
+    held-outputs = map (heldBy left right values) (take P outputs)
+
+    abbrev pub shown-phases : List model.Phase
+    shown-phases = map (phaseOf (g .offsets)) (take P phases)
+
+    -- of each as many
+    pub even : Even P held-inputs held-outputs shown-phases
+    even = record {
+      inputs-long = length-map (take P inputs) (heldBy left right values) ∙ length-take-le P inputs (enough .inputs-there);
+      outputs-long = length-map (take P outputs) (heldBy left right values) ∙ length-take-le P outputs (enough .outputs-there);
+      phases-long = length-map (take P phases) (phaseOf (g .offsets)) ∙ length-take-le P phases phases-there;
+    }
+
+    -- one of each
+    module _ (w : ℕ) (here : w < P) where
+      pub input-shown : getD held-inputs w emptyBag ≡ heldBy left right values (getD inputs w pastBag)
+      input-shown =
+          map-at (heldBy left right values) (take P inputs) w pastBag emptyBag (omega (arith, length-take-le P inputs (enough .inputs-there)))
+          ∙ ap (heldBy left right values) (getD-take P inputs w pastBag here)
+
+      pub output-shown : getD held-outputs w emptyBag ≡ heldBy left right values (getD outputs w pastBag)
+      output-shown =
+          map-at (heldBy left right values) (take P outputs) w pastBag emptyBag (omega (arith, length-take-le P outputs (enough .outputs-there)))
+          ∙ ap (heldBy left right values) (getD-take P outputs w pastBag here)
+
+      pub phase-shown : getD shown-phases w model.free ≡ phaseOf (g .offsets) (getD phases w Free)
+      phase-shown =
+          map-at (phaseOf (g .offsets)) (take P phases) w Free model.free (omega (arith, length-take-le P phases phases-there))
+          ∙ ap (phaseOf (g .offsets)) (getD-take P phases w Free here)
+
+      -- the worker
+      pub worker-shown : model.workerAt (crew g left right values inputs outputs phases) w
+          ≡ model.workerWith (heldBy left right values (getD inputs w pastBag)) (heldBy left right values (getD outputs w pastBag))
+          (phaseOf (g .offsets) (getD phases w Free))
+      worker-shown = rw (← input-shown, ← output-shown, ← phase-shown) (crew-at held-inputs held-outputs shown-phases w even)
 
     -- the state fits the engine's lists
-    pub now-fits : Fitting graph P now-state
+    pub now-fits : Fitting (graph g) P now-state
     unfolding stateAt
-    now-fits = subst (λ (r : Run). Fitting graph P (r .state)) (at .same) (demand-holds (at .ready .accepted) .fitting used)
-
-    -- a worker that is there
-    pub worker-here : (d : Worker) (w : ℕ) → w < P → getD (take P crew) w d ≡ getD crew w d
-    worker-here d w h = getD-take P crew w d h
-
-    -- and what it stands for
-    pub worker-shown : (d : Worker) (w : ℕ) → w < P → model.workerAt (now-state .workers) w ≡ workerOf offsets left right number (getD crew w d)
-    unfolding stateOf
-    worker-shown d w h =
-        map-at (workerOf offsets left right number) (take P crew) w d model.idleWorker (rw crew-taken h)
-        ∙ ap (workerOf offsets left right number) (worker-here d w h)
+    now-fits = subst (λ (r : Run). Fitting (graph g) P (r .state)) (at .same) (demand-holds (at .ready .accepted) .fitting used)
 
     -- the layer is below n
-    pub layer-low : layer < length distances
+    pub layer-low : layer < g .vertices
     unfolding stateOf
     layer-low = omega (arith, now-fits .layer-below, at .ready .rows .count)
 
@@ -164,95 +190,114 @@ module _ {source P : ℕ} {schedule offsets targets distances parents left right
     pub layer-fits : layer + 1 < 65536
     layer-fits = omega (arith, layer-low, at .ready .rows .few-vertices)
 
-    -- a worker that is there is one of eight
-    pub placed : {w : ℕ} → w < P → w < 8
-    placed there = omega (arith, at .ready .accepted .few-workers)
-
-    -- a byte more is counted in a word
-    pub used-fits : used < length schedule → used + 1 < 18446744073709551616
+    -- a byte more is counted in a word, and so are the effective ones
+    pub used-fits : used < length (g .schedule) → used + 1 < 18446744073709551616
     used-fits below = omega (arith, at .ready .few-events)
 
-  module _ {e : Event} (turn : Turn source P schedule offsets targets distances parents left right number crew used effective layer e) where
+    pub counted-fits : effective < 18446744073709551616
+    counted-fits = omega (arith, at .ready .few-events, at .within, at .counted)
+
+  module _ {e : Event} (turn : Turn g distances parents left right values inputs outputs phases busy used effective layer e) where
     -- what holds before the byte
-    abbrev at : Playing source P schedule offsets targets distances parents left right number crew used effective layer
-    at = turn .playing
+    abbrev at : Going g distances parents left right values inputs outputs phases busy used effective layer
+    at = turn .going
+
+    -- the run so far
+    abbrev run : Run
+    run = record { state = now-state at; used = used; effective = effective }
 
     -- one byte more
-    step-run : play (graph at) source P (take (used + 1) schedule)
-        ≡ tally (record { state = (now-state at); used = used; effective = effective }) (act (graph at) (now-state at) e)
+    step-run : play (graph g) (g .source) (g .workers) (take (used + 1) (g .schedule)) ≡ tally run (act (graph g) (now-state at) e)
     unfolding step stateOf
     step-run =
-        ap (λ (k : ℕ). play (graph at) source P (take k schedule)) (add-one used)
-        ∙ play-more (graph at) source P schedule used (turn .below)
-        ∙ ap (λ (r : Run). step (graph at) r (getD schedule used 0)) (at .same)
-        ∙ ap (λ (x : Event). tally (record { state = (now-state at); used = used; effective = effective }) (act (graph at) (now-state at) x)) (turn .event)
+        ap (λ (k : ℕ). play (graph g) (g .source) (g .workers) (take k (g .schedule))) (add-one used)
+        ∙ play-more (graph g) (g .source) (g .workers) (g .schedule) used (turn .below)
+        ∙ ap (λ (r : Run). step (graph g) r (getD (g .schedule) used 0)) (at .same)
+        ∙ ap (λ (x : Event). tally run (act (graph g) (now-state at) x)) (turn .event)
 
-    -- an effective one
-    pub next-run : {t : model.State} → act (graph at) (now-state at) e ≡ some t
-        → play (graph at) source P (take (used + 1) schedule) ≡ record { state = t; used = used + 1; effective = effective + 1 }
-    unfolding tally
-    next-run {t} met =
-        step-run
-        ∙ ap (tally (record { state = (now-state at); used = used; effective = effective })) met
-        ∙ ap₂ (λ (k j : ℕ). record { state = t; used = k; effective = j }) (sym (add-one used)) (sym (add-one effective))
+    -- the state after it, and whether it counts
+    pub next-run : play (graph g) (g .source) (g .workers) (take (used + 1) (g .schedule))
+        ≡ record {
+          state = orElse (act (graph g) (now-state at) e) (now-state at);
+          used = used + 1;
+          effective = effective + someOne (act (graph g) (now-state at) e);
+        }
+    unfolding tally orElse
+    next-run = step-run ∙ tallied (act (graph g) (now-state at) e)
+      where
+        tallied : (o : Option model.State)
+            → tally run o ≡ record { state = orElse o (now-state at); used = used + 1; effective = effective + someOne o }
+        tallied none = ap₂ (λ (k j : ℕ). record { state = now-state at; used = k; effective = j }) (sym (add-one used)) (sym (add-zero effective))
+        tallied (some s) = ap₂ (λ (k j : ℕ). record { state = s; used = k; effective = j }) (sym (add-one used)) (sym (add-one effective))
 
-    -- one whose condition isn't met
-    unmet-run : act (graph at) (now-state at) e ≡ none
-        → play (graph at) source P (take (used + 1) schedule) ≡ record { state = now-state at; used = used + 1; effective = effective }
-    unfolding tally
-    unmet-run unmet =
-        step-run
-        ∙ ap (tally (record { state = (now-state at); used = used; effective = effective })) unmet
-        ∙ ap (λ (k : ℕ). record { state = now-state at; used = k; effective = effective }) (sym (add-one used))
-
-    -- an effective event leaves a state that fits
-    pub next-fits : {t : model.State} → act (graph at) (now-state at) e ≡ some t → Fitting (graph at) P t
+    -- it leaves a state that fits
+    pub next-fits : Fitting (graph g) (g .workers) (orElse (act (graph g) (now-state at) e) (now-state at))
     unfolding stateAt
-    next-fits h = subst (λ (r : Run). Fitting (graph at) P (r .state)) (next-run h) (demand-holds (at .ready .accepted) .fitting (used + 1))
+    next-fits = subst (λ (r : Run). Fitting (graph g) (g .workers) (r .state)) next-run (demand-holds (at .ready .accepted) .fitting (used + 1))
 
-    -- the event's workers are there
-    pub staffed : Staffed P e
-    staffed = byte-staffed P (getD schedule used 0) e (turn .event)
-        (rw (turn .event) at (stray-at P used schedule (at .ready .accepted .formed) (turn .below)))
-
-    -- an effective event more is counted in a word
+    -- it is counted in a word if it is effective
     pub effective-fits : effective + 1 < 18446744073709551616
-    effective-fits = omega (arith, turn .below, at .counted, at .ready .few-events)
+    effective-fits = omega (arith, at .ready .few-events, turn .below, at .counted)
 
-    -- after an effective event the engine is where the model is
-    pub play-on : {distances′ parents′ left′ right′ number′ : List ℕ} {crew′ : List Worker} {layer′ : ℕ}
-        → SameLengths distances parents left right number distances′ parents′ left′ right′ number′
-        → length crew′ ≡ length crew → Moved left right (bagsOf (take P crew)) left′ right′ (bagsOf (take P crew′))
-        → ((d : Worker) (w : ℕ) → w < P → Fits offsets (length distances) (getD crew′ w d .phase))
-        → act (graph at) (now-state at) e ≡ some (stateOf offsets distances′ parents′ left′ right′ number′ (take P crew′) layer′)
-        → Playing source P schedule offsets targets distances′ parents′ left′ right′ number′ crew′ (used + 1) (effective + 1) layer′
-    play-on lengths same-crew moved fits met = record {
-      ready = runnable-still lengths (at .ready);
+    -- its workers are there
+    pub staffed : Staffed (g .workers) e
+    staffed = byte-staffed (g .workers) (getD (g .schedule) used 0) e (turn .event)
+        (rw (turn .event) at (stray-at (g .workers) used (g .schedule) (at .ready .accepted .formed) (turn .below)))
+
+    -- after it the engine is where the model is
+    pub play-on : {distances′ parents′ left′ right′ values′ : List ℕ} {inputs′ outputs′ : List declared.Bag} {phases′ : List Phase} {busy′ layer′ met : ℕ}
+        → Long g distances′ parents′ left′ right′ values′ inputs′ outputs′ phases′
+        → Moved left right (bagsOf (g .workers) inputs outputs) left′ right′ (bagsOf (g .workers) inputs′ outputs′)
+        → ((w : ℕ) → w < g .workers → InRows (g .offsets) (g .vertices) (getD phases′ w Free))
+        → busy′ ≡ sumOf heldOf (take (g .workers) phases′)
+        → met ≡ someOne (act (graph g) (now-state at) e)
+        → stateOf distances′ parents′ (crew g left′ right′ values′ inputs′ outputs′ phases′) layer′ ≡ orElse (act (graph g) (now-state at) e) (now-state at)
+        → Going g distances′ parents′ left′ right′ values′ inputs′ outputs′ phases′ busy′ (used + 1) (effective + met) layer′
+    play-on {met = met} long moved in-rows manned counts after = record {
+      ready = at .ready;
+      long = long;
       within = omega (arith, turn .below);
-      same = next-run met;
-      counted = omega (arith, at .counted);
-      crew-length = same-crew ∙ at .crew-length;
+      same = next-run ∙ ap₂ (λ (s : model.State) (k : ℕ). record { state = s; used = used + 1; effective = effective + k }) (sym after) (sym counts);
+      counted = omega (arith, at .counted, counts, some-few (act (graph g) (now-state at) e));
       pool = moved-pool (at .pool) moved;
-      whole = moved .nodes one ∙ at .whole ∙ ap (λ (m : ℕ). P * m) (sym (lengths .of-distances));
-      fits = λ d w h. rw (lengths .of-distances) (fits d w h);
+      whole = moved .nodes one ∙ at .whole;
+      in-rows = in-rows;
+      manned = manned;
     }
+      where
+        some-few : (o : Option model.State) → someOne o ≤ 1
+        some-few none = omega arith
+        some-few (some s) = omega arith
 
     -- after one whose condition isn't met it is where it was
-    pub unmet-on : act (graph at) (now-state at) e ≡ none
-        → Playing source P schedule offsets targets distances parents left right number crew (used + 1) effective layer
+    pub unmet-on : act (graph g) (now-state at) e ≡ none
+        → Going g distances parents left right values inputs outputs phases busy (used + 1) effective layer
+    unfolding orElse
     unmet-on unmet = record {
       ready = at .ready;
+      long = at .long;
       within = omega (arith, turn .below);
-      same = unmet-run unmet;
+      same = next-run ∙ rw unmet (ap (λ (k : ℕ). record { state = now-state at; used = used + 1; effective = k }) (add-zero effective));
       counted = omega (arith, at .counted);
-      crew-length = at .crew-length;
       pool = at .pool;
       whole = at .whole;
-      fits = at .fits;
+      in-rows = at .in-rows;
+      manned = at .manned;
     }
 
   -- a byte of no form
-  pub malformed-on : Turn source P schedule offsets targets distances parents left right number crew used effective layer Malformed
-      → Playing source P schedule offsets targets distances parents left right number crew (used + 1) effective layer
+  pub malformed-on : Turn g distances parents left right values inputs outputs phases busy used effective layer Malformed
+      → Going g distances parents left right values inputs outputs phases busy (used + 1) effective layer
   unfolding act
   malformed-on turn = unmet-on turn refl
+
+-- a turn, by what was decoded
+pub turn-of : {g : Given} {distances parents left right values : List ℕ} {inputs outputs : List declared.Bag} {phases : List Phase}
+    {busy used effective layer : ℕ} {said e : Event} → Going g distances parents left right values inputs outputs phases busy used effective layer
+    → used < length (g .schedule) → said ≡ eventOf (getD (g .schedule) used 0) → said ≡ e
+    → Turn g distances parents left right values inputs outputs phases busy used effective layer e
+turn-of going below decoded told = record { going = going; below = below; event = sym decoded ∙ told }
+
+-- a place of eight, as bytes of so many each
+pub place-fits : {w : ℕ} (k : ℕ) → w < 8 → k ≤ 4096 → Fits w64 (w * k)
+place-fits k here few = record { fits = omega (arith, mul-le-mul (le-pred-of-lt here) few) }

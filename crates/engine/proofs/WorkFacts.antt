@@ -1,151 +1,325 @@
--- A worker's move in a run: what it takes for granted holds, and after it the engine is where the model is.
-use mathlib.Core.Path.{_≡_, sym, ap, subst, _∙_}
-use mathlib.Core.Bool.{true, false}
-use mathlib.Core.List.{List, [], _∷_, map}
-use mathlib.Core.Option.{some}
+-- A worker's move in a run: what its steps take for granted holds, and after it the engine is where the model is.
+use mathlib.Core.Path.{_≡_, refl, sym, ap, ap₂, subst, _∙_}
+use mathlib.Core.Bool.{Bool, true, false}
+use mathlib.Core.Logic.{_⊎_}
+use mathlib.Core.List.{List, [], _∷_, map, map-append}
+use mathlib.Core.Option.{Option, none, some}
 use Prim.Native.Nat.{ℕ, suc, _+_, _-_, _*_, _≤_, _<_}
 use native.Mathlib.Omega.{arith}
-use lib.ListN.{length, getD, set, take, length-set, length-map}
-use lib.Seq.{take-set-lt}
-use Rattle.lists.specs.Lists.{sumOf}
-use Rattle.lists.proofs.Sums.{sum-set}
-use Rattle.lists.proofs.Replaced.{set-each}
-use Rattle.pennant.specs.Bag.{Bag, isEmpty, bagInsert}
+use lib.ListN.{length, getD, set, take, length-set}
+use lib.Seq.{take-set-lt, set-getD}
+use Rattle.lists.specs.Lists.{sumOf, someOne}
+use Rattle.lists.proofs.Sums.{sum-set, sum-append}
+use Rattle.lists.proofs.Replaced.{map-set, set-each}
+use Rattle.graph.specs.Steps.{GraphRows}
+use Rattle.graph.proofs.GraphRowsFacts.{offsets-long}
+use Rattle.pennant.specs.Bag.{Bag, emptyBag, isEmpty, takenNumber, bagInsert}
 use Rattle.pennant.specs.Held.{size, one, copies}
-use Rattle.pennant.proofs.Laws.{weigh-insert}
-use Rattle.bag.specs.Nodes.{nodesOf, heldBy}
+use Rattle.pennant.proofs.Laws.{taken-held, weigh-insert}
+use Rattle.bag.specs.declared.Bag as declared
+use Rattle.bag.specs.Nodes.{heldBy, pastBag}
+use Rattle.bag.specs.Promises.{Pooled, Inserted}
+use Rattle.bag.proofs.Family.{same-moved}
 use Rattle.bag.proofs.HeldFacts.{family-room}
 use Rattle.schedule.specs.declared.Event.the-variants.{Work}
 use Rattle.model.specs.State as model
-use Rattle.model.specs.Table.{holdAt, move, moveOf, movedState, afterMove, act}
+use Rattle.model.specs.Table.{holdAt, move, afterMove, movedState, act}
+use Rattle.model.specs.Words.{labelsOf}
 use Rattle.model.specs.Demand.{held}
 use Rattle.workers.specs.declared.Phase.{Phase}
 use Rattle.workers.specs.declared.Phase.the-variants.{Free, Named}
-use Rattle.model.specs.Words.{labelsOf}
-use Rattle.workers.specs.Shown.{Worker, phaseOf, workerOf, workersOf, stateOf, bagsOf}
-use Rattle.workers.specs.Steps.{Fits, Apart, Workable, Worked}
-use Rattle.workers.proofs.CrewFacts.{pool-worker, one-moved, one-workers, held-crew}
-use Rattle.workers.proofs.MoveFacts.{begin-none}
-use Rattle.workers.proofs.PutFacts.{putInto, move-put}
-use Rattle.engine.proofs.PlayingFacts.{SameLengths, Playing, Turn, graph, now-state, crew-taken, now-fits, worker-here, worker-shown}
-use Rattle.engine.proofs.PlayingFacts.{layer-low, next-fits, staffed, play-on, unmet-on}
+use Rattle.workers.specs.Shown.{crewOf, phaseOf, stateOf}
+use Rattle.workers.specs.Steps.{EdgeOf, InRows, holdFrom, Between, Advanced, BegunFrom, heldOf, orElse}
+use Rattle.workers.proofs.RowFacts.{edge-small, fits-as}
+use Rattle.workers.proofs.MoveFacts.{Moves, rest-none, begun-moves, stowed-moves, advanced-moves, between-others}
+use Rattle.workers.proofs.CrewFacts.{crew-long, crew-set, crew-loads}
+use Rattle.workers.proofs.BagsFacts.{bagsOf, BagsAfter, input-pooled, output-pooled, input-after, output-after}
+use Rattle.workers.proofs.IdleFacts.{busy-few, busy-set, busy-some}
+use Rattle.engine.proofs.PlayingFacts.{Given, graph, crew, Long, Going, Turn, P, now-state, enough, phases-there, even, held-inputs, held-outputs, shown-phases}
+use Rattle.engine.proofs.PlayingFacts.{input-shown, output-shown, phase-shown, worker-shown, now-fits, layer-low, layer-fits, next-fits, staffed, play-on, unmet-on}
 
-module _ {source P : ℕ} {schedule offsets targets distances parents left right number : List ℕ} {crew : List Worker} {used effective layer : ℕ} {w : ℕ}
-    (turn : Turn source P schedule offsets targets distances parents left right number crew used effective layer (Work w)) (d : Worker) where
+module _ {g : Given} {distances parents left right values : List ℕ} {inputs outputs : List declared.Bag} {phases : List Phase} {busy used effective layer w : ℕ}
+    (turn : Turn g distances parents left right values inputs outputs phases busy used effective layer (Work w)) where
   -- what holds before the byte
-  abbrev at : Playing source P schedule offsets targets distances parents left right number crew used effective layer
-  at = turn .playing
+  abbrev at : Going g distances parents left right values inputs outputs phases busy used effective layer
+  at = turn .going
 
-  -- the worker
-  abbrev worker : Worker
-  worker = getD crew w d
+  -- the worker is there
+  here : w < g .workers
+  here = staffed turn
 
-  -- is there
-  there : w < P
-  there = staffed turn
+  -- one of eight
+  pub work-place : w < 8
+  work-place = omega (arith, here, at .ready .accepted .few-workers)
 
-  -- among the first P
-  inside : w < length (take P crew)
-  inside = rw (crew-taken at) there
+  -- its bags and its phase
+  abbrev input : declared.Bag
+  input = getD inputs w pastBag
 
-  -- what it stands for
-  shown : model.workerAt ((now-state at) .workers) w ≡ workerOf offsets left right number worker
-  shown = worker-shown at d w there
+  abbrev output : declared.Bag
+  output = getD outputs w pastBag
 
-  -- numbers in its input bag are vertices
-  input-vertices : (v : ℕ) → 1 ≤ copies v (heldBy left right number (worker .input)) → v < length distances
-  unfolding workerOf
-  input-vertices v h = omega (arith, at .ready .rows .count, now-fits at .inputs-below w v (rw (ap {B = Bag} (λ (x : model.Worker). x .input) shown) h))
+  abbrev phase : Phase
+  phase = getD phases w Free
 
-  -- what its two bags hold
-  abbrev input : Bag
-  input = heldBy left right number (worker .input)
+  -- what the bags hold
+  abbrev held-input : Bag
+  held-input = heldBy left right values input
 
-  abbrev output : Bag
-  output = heldBy left right number (worker .output)
+  abbrev held-output : Bag
+  held-output = heldBy left right values output
 
-  -- the worker after it has stowed
-  stowed : (u i t : ℕ) → model.Worker
-  stowed u i t = model.workerWith input (bagInsert t output) (holdAt (graph at) u (suc (i - getD offsets u 0)))
+  -- its phase is at an edge
+  in-row : InRows (g .offsets) (g .vertices) phase
+  in-row = at .in-rows w here
 
-  -- if it is about to stow, the table has a move for it
-  stow-act : (u i f t : ℕ) → worker .phase ≡ Named u i f t
-      → act (graph at) (now-state at) (Work w) ≡ some (movedState (now-state at) w (stowed u i t, labelsOf distances parents))
-  unfolding act afterMove move workerOf phaseOf stateOf stowed
-  stow-act u i f t named =
-      ap (λ (y : model.Worker). afterMove (now-state at) w (moveOf (graph at) layer (labelsOf distances parents) y)) shown
-      ∙ ap (λ (p : Phase). afterMove (now-state at) w (move (graph at) layer (labelsOf distances parents) input output (phaseOf offsets p))) named
-
-  -- and a node is free for what it stows
-  stow-room : (u i f t : ℕ) → worker .phase ≡ Named u i f t → getD left 0 0 ≡ 0 → ⊥
-  unfolding held stateOf workerOf stowed
-  stow-room u i f t named =
-      let ws = workersOf offsets left right number (take P crew) in
-      let load : model.Worker → ℕ = λ y. size (y .input) + size (y .output) in
-      let after = next-fits turn (stow-act u i f t named) .all-held in
-      let grown = sum-set load ws w (stowed u i t) model.idleWorker (rw length-map inside) in
-      let before : load (model.workerAt ws w) ≡ size input + size output = ap load shown in
-      let inserted = weigh-insert one t output in
-      let few : sumOf size (map (heldBy left right number) (bagsOf (take P crew))) < P * length distances =
-      omega (arith, held-crew offsets left right number (take P crew), ap (λ (k : ℕ). P * k) (at .ready .rows .count)) in
-      family-room left right number (bagsOf (take P crew)) (P * length distances) (at .whole) few
-
-  -- what its move takes for granted
-  pub work-able : Workable worker layer offsets targets distances parents left right number
-  work-able = record {
-    rows = at .ready .rows;
-    parents-all = at .ready .sized .parents-all;
-    layer-below = layer-low at;
-    phase-fits = at .fits d w there;
-    stocked = record { pool = rw (worker-here at d w there) at (pool-worker (take P crew) w d (at .pool) inside); numbered = at .ready .sized .numbered };
-    input-below = λ v h. input-vertices v h;
-    room = λ u i f t named. stow-room u i f t named;
-  }
-
-  -- the event by the worker's move
-  work-act : act (graph at) (now-state at) (Work w)
-      ≡ putInto (movedState (now-state at) w) (moveOf (graph at) layer (labelsOf distances parents) (workerOf offsets left right number worker))
+  -- the event by its move
+  work-act : act (graph g) (now-state at) (Work w)
+      ≡ afterMove (now-state at) w (move (graph g) layer (labelsOf distances parents) held-input held-output (phaseOf (g .offsets) phase))
   unfolding act stateOf
   work-act =
-      move-put (now-state at) w _
-      ∙ ap (λ (x : model.Worker). putInto (movedState (now-state at) w) (moveOf (graph at) layer (labelsOf distances parents) x)) shown
+      ap (λ (x : model.Worker). afterMove (now-state at) w (move (graph g) layer (labelsOf distances parents) (x .input) (x .output) (x .phase))) (worker-shown at w here)
 
-  -- a free worker whose input bag is empty has none
-  pub idle-on : worker .phase ≡ Free → isEmpty (nodesOf left right (worker .input)) ≡ true
-      → Playing source P schedule offsets targets distances parents left right number crew (used + 1) effective layer
-  idle-on free empty =
+  -- Taking.
+
+  -- what a test for an empty input bag told
+  pub input-told : {empty : Bool} → ((left right values : List ℕ) → Pooled left right (input ∷ []) → empty ≡ isEmpty (heldBy left right values input))
+      → isEmpty held-input ≡ empty
+  input-told told = sym (told left right values (input-pooled (enough at) (at .pool) w here))
+
+  -- a free worker with nothing in its bag stays as it is
+  pub rest-on : phase ≡ Free → isEmpty held-input ≡ true → Going g distances parents left right values inputs outputs phases busy (used + 1) effective layer
+  unfolding afterMove
+  rest-on free empty =
       unmet-on turn
-      (work-act
-      ∙ ap (putInto (movedState (now-state at) w)) (begin-none (graph at) layer (labelsOf distances parents) worker offsets left right number free empty))
+      (work-act ∙ ap (afterMove (now-state at) w) (rest-none (graph g) layer (labelsOf distances parents) (g .offsets) held-input held-output phase free empty))
 
-  -- after its move
-  module _ {distances′ parents′ left′ right′ number′ : List ℕ} {worker′ : Worker}
-      (worked : Worked worker layer offsets targets distances parents left right number distances′ parents′ left′ right′ number′ worker′) where
-    -- the worker as one of the first P
-    one-apart : Apart (getD (take P crew) w d ∷ []) left right number left′ right′ number′ (worker′ ∷ [])
-    one-apart = subst (λ (x : Worker). Apart (x ∷ []) left right number left′ right′ number′ (worker′ ∷ [])) (sym (worker-here at d w there)) (worked .apart)
+  -- the numbers in its input bag are vertices
+  input-below : (v : ℕ) → 1 ≤ copies v held-input → v < g .vertices
+  unfolding stateOf
+  input-below v h =
+      omega (arith, at .ready .rows .count, now-fits at .inputs-below w v (rw (ap {B = Bag} (λ (x : model.Worker). x .input) (worker-shown at w here)) h))
 
-    -- the first P workers with it replaced
-    one-taken : take P (set crew w worker′) ≡ set (take P crew) w worker′
-    one-taken = take-set-lt P crew w worker′ there
+  -- what `begin` takes for granted
+  pub begin-able : isEmpty held-input ≡ false
+      → Pooled left right (input ∷ [])
+      × ((length left ≤ length values) × ((isEmpty held-input ≡ false) × ((v : ℕ) → 1 ≤ copies v held-input → v + 1 < length (g .offsets))))
+  begin-able filled = (
+    input-pooled (enough at) (at .pool) w here,
+    (
+      omega (arith, at .ready .numbered, at .long .left-long, at .long .values-long),
+      (filled, λ v h. omega (arith, input-below v h, offsets-long (at .ready .rows))),
+    ),
+  )
 
-    -- the state that the engine is in then
-    abbrev next-state : model.State
-    next-state = stateOf offsets distances′ parents′ left′ right′ number′ (take P (set crew w worker′)) layer
+  -- A move that was made.
 
-    -- is the one with the worker put into it
-    one-after : movedState (now-state at) w (workerOf offsets left′ right′ number′ worker′, labelsOf distances′ parents′) ≡ next-state
-    unfolding stateOf
-    one-after =
-        ap (λ (ws : List model.Worker). record { labels = labelsOf distances′ parents′; workers = ws; layer = layer; finished = false })
-        (sym (ap (workersOf offsets left′ right′ number′) one-taken
-        ∙ one-workers offsets left right number left′ right′ number′ (take P crew) w d worker′ (at .pool) inside one-apart))
+  -- the worker's bags and phase, and the lists, after it
+  pub record Worked (distances′ parents′ left′ right′ values′ : List ℕ) (inputs′ outputs′ : List declared.Bag) (next : Phase) : Type 0 where
+    pub input′ : Bag
+    pub output′ : Bag
+    pub moves : Moves (g .offsets) (g .targets) layer distances parents held-input held-output phase distances′ parents′ input′ output′ next
+    pub bags : BagsAfter (g .workers) inputs outputs left right left′ right′ values′ inputs′ outputs′
+        (set (held-inputs at) w input′) (set (held-outputs at) w output′)
+    pub long : Long g distances′ parents′ left′ right′ values′ inputs′ outputs′ phases
 
-    -- the run goes on
-    pub work-on : SameLengths distances parents left right number distances′ parents′ left′ right′ number′
-        → Playing source P schedule offsets targets distances′ parents′ left′ right′ number′ (set crew w worker′) (used + 1) (effective + 1) layer
-    work-on lengths =
-        play-on turn lengths (length-set crew w worker′)
-        (rw one-taken (one-moved offsets left right number left′ right′ number′ (take P crew) w d worker′ (at .pool) inside one-apart))
-        (λ d′. set-each (λ (x : Worker). Fits offsets (length distances) (x .phase)) (λ j. j < P) crew w worker′ d′ (worked .phase-fits) (at .fits d′))
-        (work-act ∙ ap (putInto (movedState (now-state at) w)) (worked .made) ∙ ap some one-after)
+  -- a worker that holds a vertex is counted, and no more are than there are
+  pub recount-able : (heldOf phase ≤ busy) × (busy ≤ 8)
+  recount-able =
+      let there = phases-there at in (
+        omega (arith, at .manned, busy-some phases (g .workers) there w here),
+        omega (arith, at .manned, busy-few phases (g .workers) there, at .ready .accepted .few-workers),
+      )
+
+  -- the run goes on
+  pub worked-on : {distances′ parents′ left′ right′ values′ : List ℕ} {inputs′ outputs′ : List declared.Bag} {next : Phase} {busy′ : ℕ}
+      → Worked distances′ parents′ left′ right′ values′ inputs′ outputs′ next → busy′ + heldOf phase ≡ busy + heldOf next
+      → Going g distances′ parents′ left′ right′ values′ inputs′ outputs′ (set phases w next) busy′ (used + 1) (effective + 1) layer
+  unfolding afterMove orElse stateOf
+  worked-on {distances′} {parents′} {left′} {right′} {values′} {inputs′} {outputs′} {next} {busy′} worked recounted =
+      play-on turn
+      (record {
+        distances-long = worked .long .distances-long;
+        parents-long = worked .long .parents-long;
+        left-long = worked .long .left-long;
+        right-long = worked .long .right-long;
+        values-long = worked .long .values-long;
+        inputs-long = worked .long .inputs-long;
+        outputs-long = worked .long .outputs-long;
+        phases-long = length-set phases w next ∙ at .long .phases-long;
+      })
+      (worked .bags .moved)
+      (set-each (InRows (g .offsets) (g .vertices)) (λ j. j < g .workers) phases w next Free
+      (rw (at .long .distances-long) at (worked .moves .in-rows)) (at .in-rows))
+      (omega (arith, at .manned, recounted, busy-set phases (g .workers) (phases-there at) w here next))
+      (sym (ap someOne made))
+      (ap (λ (ws : List model.Worker). record { labels = labelsOf distances′ parents′; workers = ws; layer = layer; finished = false }) crew-after
+      ∙ sym (ap (λ (o : Option model.State). orElse o (now-state at)) made))
+    where
+      -- the worker then
+      after : model.Worker
+      after = model.workerWith (worked .input′) (worked .output′) (phaseOf (g .offsets) next)
+
+      made : act (graph g) (now-state at) (Work w) ≡ some (movedState (now-state at) w (after, labelsOf distances′ parents′))
+      made = work-act ∙ ap (afterMove (now-state at) w) (worked .moves .made)
+
+      crew-after : crew g left′ right′ values′ inputs′ outputs′ (set phases w next) ≡ set (crew g left right values inputs outputs phases) w after
+      crew-after =
+          rw (
+            worked .bags .inputs-held,
+            worked .bags .outputs-held,
+            take-set-lt (g .workers) phases w next here,
+            map-set (phaseOf (g .offsets)) (take (g .workers) phases) w next,
+          )
+          (crew-set (held-inputs at) (held-outputs at) (shown-phases at) w (worked .input′) (worked .output′) (phaseOf (g .offsets) next))
+
+  -- bags that stay as they are, as one of them is put back
+  input-back : set (held-inputs at) w held-input ≡ held-inputs at
+  input-back = ap (set (held-inputs at) w) (sym (input-shown at w here)) ∙ set-getD (held-inputs at) w emptyBag
+
+  output-back : set (held-outputs at) w held-output ≡ held-outputs at
+  output-back = ap (set (held-outputs at) w) (sym (output-shown at w here)) ∙ set-getD (held-outputs at) w emptyBag
+
+  -- `begin`
+  pub begun-worked : phase ≡ Free → isEmpty held-input ≡ false → {left′ : List ℕ} {rest : declared.Bag} {next : Phase}
+      → BegunFrom input (g .offsets) left right values left′ rest next
+      → Worked distances parents left′ right values (set inputs w rest) outputs next
+  begun-worked free filled {left′} {rest} {next} begun = record {
+    input′ = heldBy left′ right values rest;
+    output′ = held-output;
+    moves = begun-moves distances parents layer ground held-output free filled
+        (rw (at .long .distances-long) (input-below (takenNumber held-input) (taken-held held-input filled))) begun;
+    bags = rw output-back (input-after (enough at) (at .pool) w here values values (begun .taken .moved) (λ x h c. refl));
+    long = record {
+      distances-long = at .long .distances-long;
+      parents-long = at .long .parents-long;
+      left-long = begun .taken .moved .left-length ∙ at .long .left-long;
+      right-long = at .long .right-long;
+      values-long = at .long .values-long;
+      inputs-long = length-set inputs w rest ∙ at .long .inputs-long;
+      outputs-long = at .long .outputs-long;
+      phases-long = at .long .phases-long;
+    };
+  }
+    where
+      ground : GraphRows (g .offsets) (g .targets) (length distances)
+      ground = rw (at .long .distances-long) (at .ready .rows)
+
+  -- Stowing.
+
+  module _ {u e f t : ℕ} (named : phase ≡ Named u e f t) where
+    -- its edge is one of its vertex
+    named-edge : EdgeOf (g .offsets) (g .vertices) u e f
+    named-edge = fits-as (g .offsets) (g .vertices) named in-row .0
+
+    -- the worker after it has stowed
+    stowed : model.Worker
+    stowed = model.workerWith held-input (bagInsert t held-output) (holdAt (graph g) u (suc (e - getD (g .offsets) u 0)))
+
+    -- the table has this move for it
+    stow-act : act (graph g) (now-state at) (Work w) ≡ some (movedState (now-state at) w (stowed, labelsOf distances parents))
+    unfolding afterMove move phaseOf stowed
+    stow-act =
+        work-act
+        ∙ ap (λ (p : Phase). afterMove (now-state at) w (move (graph g) layer (labelsOf distances parents) held-input held-output (phaseOf (g .offsets) p))) named
+
+    -- all workers hold one number more then
+    stow-held : held (crew g left right values inputs outputs phases) + 1 ≤ g .workers * length (graph g)
+    unfolding orElse held stateOf stowed
+    stow-held =
+        let load : model.Worker → ℕ = λ y. size (y .input) + size (y .output) in
+        let ws = crew g left right values inputs outputs phases in
+        let inside : w < length ws = rw (crew-long (held-inputs at) (held-outputs at) (shown-phases at) (even at)) here in
+        let few : sumOf load (set ws w stowed) ≤ g .workers * length (graph g) = rw stow-act at (next-fits turn .all-held) in
+        let before : load (model.workerAt ws w) ≡ size held-input + size held-output = ap load (worker-shown at w here) in
+        omega (arith, sum-set load ws w stowed model.idleWorker inside, weigh-insert one t held-output)
+
+    -- so a node is free for it
+    stow-room : getD left 0 0 ≡ 0 → ⊥
+    stow-room =
+        family-room left right values (bagsOf (g .workers) inputs outputs) (g .workers * g .vertices) (at .whole)
+        (omega (
+          arith,
+          stow-held,
+          crew-loads (held-inputs at) (held-outputs at) (shown-phases at) (even at),
+          ap (sumOf size) (map-append (heldBy left right values) (take (g .workers) inputs) (take (g .workers) outputs)),
+          sum-append size (held-inputs at) (held-outputs at),
+          ap (λ (k : ℕ). g .workers * k) (at .ready .rows .count),
+        ))
+
+    -- what `stow` takes for granted
+    pub stow-able : (e + 1 < 65536) × (Pooled left right (output ∷ []) × ((length left ≤ length values) × (getD left 0 0 ≡ 0 → ⊥)))
+    stow-able = (
+      edge-small (at .ready .rows) named-edge .edge-small,
+      (
+        output-pooled (enough at) (at .pool) w here,
+        (omega (arith, at .ready .numbered, at .long .left-long, at .long .values-long), stow-room),
+      ),
+    )
+
+    -- `stow`
+    pub stowed-worked : {left′ right′ values′ : List ℕ} {more : declared.Bag} {next : Phase}
+        → Inserted left right values output t left′ right′ values′ more
+        → ((offsets : List ℕ) → f ≡ getD offsets (u + 1) 0 → next ≡ holdFrom offsets u (e + 1))
+        → Worked distances parents left′ right′ values′ inputs (set outputs w more) next
+    stowed-worked {left′} {right′} {values′} {more} {next} inserted passed = record {
+      input′ = held-input;
+      output′ = heldBy left′ right′ values′ more;
+      moves = stowed-moves distances parents layer ground held-input named (rw (at .long .distances-long) in-row) inserted
+          (passed (g .offsets) (named-edge .ends));
+      bags = rw input-back (output-after (enough at) (at .pool) w here values values′ (inserted .moved) (inserted .kept-value));
+      long = record {
+        distances-long = at .long .distances-long;
+        parents-long = at .long .parents-long;
+        left-long = inserted .moved .left-length ∙ at .long .left-long;
+        right-long = inserted .moved .right-length ∙ at .long .right-long;
+        values-long = ap length (inserted .stored) ∙ length-set values (getD left 0 0) t ∙ at .long .values-long;
+        inputs-long = at .long .inputs-long;
+        outputs-long = length-set outputs w more ∙ at .long .outputs-long;
+        phases-long = at .long .phases-long;
+      };
+    }
+      where
+        ground : GraphRows (g .offsets) (g .targets) (length distances)
+        ground = rw (at .long .distances-long) (at .ready .rows)
+
+  -- The moves without a bag.
+
+  -- a phase that is neither free nor named
+  pub between-now : (tag : Phase → ℕ) → tag Free ≡ 0 → ((u e f t : ℕ) → tag (Named u e f t) ≡ 4)
+      → (tag phase ≡ 1) ⊎ ((tag phase ≡ 2) ⊎ ((tag phase ≡ 3) ⊎ (tag phase ≡ 4)))
+      → (tag phase ≡ 0) ⊎ ((tag phase ≡ 1) ⊎ ((tag phase ≡ 2) ⊎ (tag phase ≡ 3)))
+      → Between (g .targets) (length distances) phase
+  between-now tag first last h k = rw (at .long .distances-long) (between-others (at .ready .rows) tag first last phase in-row h k)
+
+  -- what `advance` takes for granted
+  pub advance-able : Between (g .targets) (length distances) phase
+      → (length parents ≡ length distances) × ((layer + 1 < 65536) × Between (g .targets) (length distances) phase)
+  advance-able between = (at .long .parents-long ∙ sym (at .long .distances-long), (layer-fits at, between))
+
+  -- `advance`
+  pub advanced-worked : {distances′ parents′ : List ℕ} {next : Phase}
+      → ((offsets : List ℕ) → GraphRows offsets (g .targets) (length distances) → layer < length distances → InRows offsets (length distances) phase
+      → Advanced phase layer offsets (g .targets) distances parents distances′ parents′ next)
+      → Worked distances′ parents′ left right values inputs outputs next
+  advanced-worked {distances′} {parents′} {next} promised = record {
+    input′ = held-input;
+    output′ = held-output;
+    moves = advanced-moves held-input held-output advanced;
+    bags = rw (input-back, output-back) (record { moved = same-moved (λ f. refl) (at .pool .formed); inputs-held = refl; outputs-held = refl });
+    long = record {
+      distances-long = advanced .distances-length ∙ at .long .distances-long;
+      parents-long = advanced .parents-length ∙ at .long .parents-long;
+      left-long = at .long .left-long;
+      right-long = at .long .right-long;
+      values-long = at .long .values-long;
+      inputs-long = at .long .inputs-long;
+      outputs-long = at .long .outputs-long;
+      phases-long = at .long .phases-long;
+    };
+  }
+    where
+      advanced : Advanced phase layer (g .offsets) (g .targets) distances parents distances′ parents′ next
+      advanced =
+          let long = at .long .distances-long in
+          promised (g .offsets) (rw long (at .ready .rows)) (rw long (layer-low at)) (rw long in-row)

@@ -14,11 +14,11 @@ use Rattle.engine.specs.declared.Answer.{Answer}
 use Rattle.graph.specs.Steps.{GraphRows}
 
 -- `run`: what it takes for granted
-pub record Runnable (source P : ℕ) (schedule offsets targets distances parents left right number : List ℕ) : Type 0 where
+pub record Runnable (source P : ℕ) (schedule offsets targets distances parents left right values : List ℕ) : Type 0 where
   pub rows : GraphRows offsets targets (length distances)
   pub accepted : Accepted (rowsOf offsets targets) source P schedule
   pub few-events : length schedule ≤ maxEvents
-  pub sized : Sized P distances parents left right number
+  pub sized : Sized P distances parents left right values
 
 -- an answer by its four numbers
 abbrev pub answerOf : ℕ → ℕ → ℕ → ℕ → Answer

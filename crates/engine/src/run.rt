@@ -4,7 +4,6 @@ ghost use Rattle.graph.specs.Graph.{rowsOf};
 ghost use Rattle.model.specs.Play.{play};
 ghost use Rattle.engine.specs.Runs.{answerOf, Runnable, Ran};
 use crate::Answer;
-use bag::Bag;
 use opening::open;
 use schedule::Event;
 use workers::Phase;
@@ -12,12 +11,12 @@ use workers::advance;
 use workers::all_empty;
 use workers::all_free;
 use workers::begin;
-use workers::can_split;
-use workers::can_unite;
 use workers::first_of_eight;
 use workers::gather;
-use workers::held;
+use workers::recount;
+use workers::split;
 use workers::stow;
+use workers::unite;
 
 // The run's answer.
 fn conclude(number: usize, used: usize, effective: usize, layer: u16) -> Answer
@@ -43,14 +42,18 @@ pub fn run(
     parents: &mut [u16],
     left: &mut [u16],
     right: &mut [u16],
-    number: &mut [u16],
+    values: &mut [u16],
 ) -> Answer
-    requires { ⌜ Runnable source workers (now schedule) (now offsets) (now targets) (now distances) (now parents) (now left) (now right) (now number) ⌝ }
-    ensures { λ r. ⌜ Ran (play (rowsOf (now (offsets .entry)) (now (targets .entry))) source workers (now (schedule .entry))) (now (distances .exit)) (now (parents .exit)) r ⌝ }
+    requires { ⌜
+        Runnable source workers (now schedule) (now offsets) (now targets) (now distances) (now parents)
+        (now left) (now right) (now values)
+        ⌝ }
+    ensures { λ r. ⌜
+        Ran (play (rowsOf (now (offsets .entry)) (now (targets .entry))) source workers (now (schedule .entry)))
+        (now (distances .exit)) (now (parents .exit)) r
+        ⌝ }
 {
-    let source_bag = open(source, workers, distances, parents, left, right, number);
-    // A bag of a worker stands here as its slots, which can be lent and changed where they are, as a
-    // struct can't; where a bag is handed over, the struct is made of them.
+    let source_bag = open(source, workers, distances, parents, left, right, values);
     let mut inputs = first_of_eight(source_bag);
     let mut outputs = first_of_eight(bag::empty());
     let mut phases = all_free();
@@ -64,83 +67,65 @@ pub fn run(
         match event {
             Event::Work { worker: w } => {
                 let phase = phases[w];
-                if let Phase::Free = phase {
-                    let slots = inputs[w];
-                    if !bag::is_empty(Bag { slots }) {
-                        let next = begin(&mut inputs[w], offsets, left, right, number);
-                        phases[w] = next;
-                        busy += held(next);
-                        effective += 1;
+                let next = if let Phase::Free = phase {
+                    let input = inputs[w];
+                    if bag::is_empty(input) {
+                        continue;
                     }
+                    let begun = begin(input, offsets, left, right, values);
+                    let rest = begun.input;
+                    inputs[w] = rest;
+                    begun.phase
                 } else if let Phase::Named {
                     vertex,
                     edge,
                     end,
                     target,
                 } = phase {
-                    let next = stow(
-                        &mut outputs[w],
-                        vertex,
-                        edge,
-                        end,
-                        target,
-                        left,
-                        right,
-                        number,
-                    );
-                    phases[w] = next;
-                    busy = busy + held(next) - 1;
-                    effective += 1;
+                    let stowed = stow(outputs[w], vertex, edge, end, target, left, right, values);
+                    let more = stowed.output;
+                    outputs[w] = more;
+                    stowed.phase
                 } else {
-                    let next = advance(phase, layer, targets, distances, parents);
-                    phases[w] = next;
-                    busy = busy + held(next) - 1;
-                    effective += 1;
-                }
+                    advance(phase, layer, targets, distances, parents)
+                };
+                phases[w] = next;
+                busy = recount(busy, phase, next);
+                effective += 1;
             }
             Event::Split { taker: w, giver: v } => {
-                let taker_slots = inputs[w];
-                let giver_slots = inputs[v];
-                let giver = Bag { slots: giver_slots };
-                if can_split(Bag { slots: taker_slots }, giver) {
-                    let halves = bag::split(giver, left, right);
-                    let kept = halves.first;
-                    let given = halves.second;
-                    let kept_slots = kept.slots;
-                    let given_slots = given.slots;
-                    inputs[v] = kept_slots;
-                    inputs[w] = given_slots;
-                    effective += 1;
-                }
+                let shared = split(inputs[w], inputs[v], left, right);
+                let taker = shared.first;
+                let giver = shared.second;
+                inputs[v] = giver;
+                inputs[w] = taker;
+                effective += shared.met;
             }
             Event::Unite { giver: w, taker: v } => {
-                let giver_slots = outputs[w];
-                let taker_slots = outputs[v];
-                let giver = Bag { slots: giver_slots };
-                if can_unite(giver, Bag { slots: taker_slots }) {
-                    bag::union_into(&mut outputs[v], giver, left, right);
-                    outputs[w] = [0; 16];
-                    effective += 1;
-                }
+                let shared = unite(outputs[w], outputs[v], left, right);
+                let giver = shared.first;
+                let taker = shared.second;
+                outputs[v] = taker;
+                outputs[w] = giver;
+                effective += shared.met;
             }
             Event::Close => {
-                if busy == 0 {
-                    if all_empty(&inputs, workers) {
-                        let slots = inputs[0];
-                        let united = gather(Bag { slots }, &outputs, workers, left, right);
-                        // "d grows by 1", unless the search is finished: "d stays".
-                        let next = layer + 1;
-                        let counted = effective + 1;
-                        if bag::is_empty(united) {
-                            return conclude(numbers::SUCCESS, used, counted, layer);
-                        }
-                        layer = next;
-                        effective = counted;
-                        inputs = first_of_eight(united);
-                        outputs = first_of_eight(bag::empty());
-                        phases = all_free();
-                    }
+                if busy != 0 {
+                    continue;
                 }
+                if !all_empty(inputs, workers) {
+                    continue;
+                }
+                let united = gather(inputs[0], outputs, workers, left, right);
+                effective += 1;
+                if bag::is_empty(united) {
+                    return conclude(numbers::SUCCESS, used, effective, layer);
+                }
+                // "d grows by 1".
+                layer += 1;
+                inputs = first_of_eight(united);
+                outputs = first_of_eight(bag::empty());
+                phases = all_free();
             }
             Event::Malformed => {}
         }

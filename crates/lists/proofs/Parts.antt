@@ -1,11 +1,12 @@
 -- What is read at a place of a list, of repeated elements, and of a part of a list.
 use mathlib.Core.Path.{_≡_, refl, sym, ap, _∙_}
-use mathlib.Core.List.{List, [], _∷_}
+use mathlib.Core.List.{List, [], _∷_, _++_}
 use mathlib.Core.Option.{Option, none, some, Option·none-ne-some}
 use Prim.Native.Nat.{ℕ, zero, suc, _+_, _≤_, _<_}
+use native.Mathlib.Nat.{zero-add, suc-add}
 use native.Mathlib.Omega.{arith}
-use lib.ListN.{length, getD, take, drop, replicate}
-use lib.Seq.{getD-take, getD-drop}
+use lib.ListN.{length, getD, set, take, drop, replicate}
+use lib.Seq.{getD-take, getD-drop, take-at, drop-at, set-getD}
 
 -- a place that is set is one of the list
 pub place-below : {A : Type 0} (l : List (Option A)) (i : ℕ) {a : A} → getD l i none ≡ some a → i < length l
@@ -34,3 +35,19 @@ getD-any (x ∷ l) (suc i) d e h = getD-any l i d e (omega arith)
 -- what stands in a part of a list's first places stands in the list's part
 pub part-at : {A : Type 0} (a k : ℕ) (l : List A) (j : ℕ) (d : A) → a + j < k → getD (drop a (take k l)) j d ≡ getD (drop a l) j d
 part-at a k l j d h = getD-drop a (take k l) j d ∙ getD-take k l (a + j) d h ∙ sym (getD-drop a l j d)
+
+-- two lists in two parts each, of which the first are equally long, are equal part by part
+pub parts-same : {A : Type 0} (a b c d : List A) → length a ≡ length c → a ++ b ≡ c ++ d → (a ≡ c) × (b ≡ d)
+parts-same a b c d long same = (
+  sym (take-at a b (length a) refl) ∙ ap (take (length a)) same ∙ take-at c d (length a) (sym long),
+  sym (drop-at a b (length a) refl) ∙ ap (drop (length a)) same ∙ drop-at c d (length a) (sym long),
+)
+
+-- a place of the second part replaced
+pub set-second : {A : Type 0} (a b : List A) (i : ℕ) (x : A) → set (a ++ b) (length a + i) x ≡ a ++ set b i x
+set-second [] b i x = ap (λ (k : ℕ). set b k x) (zero-add i)
+set-second (y ∷ a) b i x = ap (λ (k : ℕ). set (y ∷ a ++ b) k x) (suc-add (length a) i) ∙ ap (λ (l : List _). y ∷ l) (set-second a b i x)
+
+-- the first element of many that are alike, replaced by another such
+pub set-alike : {A : Type 0} (n i : ℕ) (a : A) → set (replicate n a) i a ≡ replicate n a
+set-alike n i a = ap (set (replicate n a) i) (sym (getD-repeated n i a)) ∙ set-getD (replicate n a) i a

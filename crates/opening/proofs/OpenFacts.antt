@@ -7,15 +7,16 @@ use native.Mathlib.Nat.{mul-le-mul}
 use native.Mathlib.Omega.{arith}
 use lib.ListN.{length, getD, set, replicate}
 use Rattle.numbers.specs.Numbers.{maxVertices, maxWorkers, unset}
-use Rattle.lists.specs.Lists.{overlay, numbersFrom, sumOf}
+use Rattle.lists.specs.Lists.{overlay, numbersFrom}
 use Rattle.lists.proofs.Overlay.{overlay-whole}
 use Rattle.lists.proofs.Replaced.{map-set, map-repeated}
 use Rattle.pennant.specs.Bag.{bagInsert}
-use Rattle.pennant.specs.Held.{weigh, one}
-use Rattle.bag.specs.Nodes.{nodesOf, heldBy, freeNodes, emptySlots}
+use Rattle.pennant.specs.Held.{one}
+use Rattle.bag.specs.declared.Bag as declared
+use Rattle.bag.specs.Nodes.{heldBy, freeNodes, newBag}
 use Rattle.bag.specs.Promises.{Pooled, Inserted, weighNodes}
 use Rattle.bag.proofs.Family.{moved-pool}
-use Rattle.bag.proofs.Free.{free-some, free-chained, free-count, pool-free, empty-weight}
+use Rattle.bag.proofs.Free.{free-some, free-chained, free-count, pool-free, weigh-new}
 use Rattle.bag.proofs.HeldFacts.{held-none}
 use Rattle.model.specs.State.{openingLabels}
 use Rattle.model.specs.Call.{nodePlaces}
@@ -63,9 +64,9 @@ pub nodes-word : {P n m : ℕ} → P ≤ maxWorkers → n ≤ maxVertices → m 
 nodes-word {P} p q same = let product = ap (λ (k : ℕ). P * k) same in omega (arith, nodes-few p q)
 
 -- the new pool
-module _ {P source : ℕ} {distances parents left left′ right number none : List ℕ} (sized : Sized P distances parents left right number)
+module _ {P source : ℕ} {distances parents left left′ right values : List ℕ} {none : declared.Bag} (sized : Sized P distances parents left right values)
     (some-vertex : source < length distances) (m : ℕ) (same : m ≡ length distances)
-    (chained : left′ ≡ overlay (numbersFrom 1 (P * m) ++ 0 ∷ []) left) (long : length left′ ≡ length left) (empty : none ≡ emptySlots) where
+    (chained : left′ ≡ overlay (numbersFrom 1 (P * m) ++ 0 ∷ []) left) (long : length left′ ≡ length left) (empty : none ≡ newBag) where
   -- how many nodes
   abbrev nodes : ℕ
   nodes = P * length distances
@@ -87,20 +88,19 @@ module _ {P source : ℕ} {distances parents left left′ right number none : Li
   new-room = free-some left′ (omega (arith, free-count left′ nodes all-free, mul-le-mul (sized .some-worker) some-vertex))
 
   -- after the source is inserted
-  pub new-opened : {distances′ parents′ left″ right″ number″ slots : List ℕ} → distances′ ≡ set (replicate (length distances) unset) source 0
-      → parents′ ≡ set (replicate (length distances) unset) source source → Inserted left′ right number none source left″ right″ number″ slots
-      → FirstLayer P source distances distances′ parents′ left″ right″ number″ slots
-  unfolding weighNodes sumOf
+  pub new-opened : {distances′ parents′ left″ right″ values″ : List ℕ} {bag : declared.Bag} → distances′ ≡ set (replicate (length distances) unset) source 0
+      → parents′ ≡ set (replicate (length distances) unset) source source → Inserted left′ right values none source left″ right″ values″ bag
+      → FirstLayer P source distances distances′ parents′ left″ right″ values″ bag
   new-opened first second inserted = record {
     labels = labels-shown (length distances) source (omega (arith, sized .few-vertices)) first second;
-    held = inserted .held ∙ ap (bagInsert source) (ap (heldBy left′ right number) empty ∙ held-none left′ right number);
+    held = inserted .held ∙ ap (bagInsert source) (ap (heldBy left′ right values) empty ∙ held-none left′ right values);
     pool = moved-pool new-pool (inserted .moved);
     whole =
         inserted .moved .nodes one
         ∙ omega (
           arith,
-          ap {B = ℕ} (λ (slots : List ℕ). weigh one (nodesOf left′ right slots)) empty,
-          empty-weight left′ right one,
+          ap (λ (b : declared.Bag). weighNodes one left′ right (b ∷ [])) empty,
+          weigh-new left′ right one 1,
           free-count left′ nodes all-free,
         );
   }

@@ -6,6 +6,7 @@ use lib.ListN.{length}
 use Rattle.numbers.specs.Numbers.{maxVertices, maxWorkers}
 use Rattle.pennant.specs.Bag.{emptyBag, bagInsert}
 use Rattle.pennant.specs.Held.{one}
+use Rattle.bag.specs.declared.Bag as declared
 use Rattle.bag.specs.Nodes.{heldBy}
 use Rattle.bag.specs.Promises.{Pooled, weighNodes, weighFree}
 use Rattle.model.specs.State.{openingLabels}
@@ -13,18 +14,18 @@ use Rattle.model.specs.Call.{nodePlaces}
 use Rattle.model.specs.Words.{labelsOf}
 
 -- as many parents as distances, no more than n may be, and node lists for P workers, left of exactly its need
-pub record Sized (P : ℕ) (distances parents left right number : List ℕ) : Type 0 where
+pub record Sized (P : ℕ) (distances parents left right values : List ℕ) : Type 0 where
   pub few-vertices : length distances ≤ maxVertices
   pub some-worker : 1 ≤ P
   pub few-workers : P ≤ maxWorkers
   pub parents-all : length parents ≡ length distances
   pub nodes : length left ≡ nodePlaces (length distances) P
   pub wide : length left ≤ length right
-  pub numbered : length left ≤ length number
+  pub numbered : length left ≤ length values
 
 -- `open`: the opening labels, and the source alone in the bag, all other nodes free
-pub record FirstLayer (P source : ℕ) (distances distances′ parents′ left′ right′ number′ slots : List ℕ) : Type 0 where
+pub record FirstLayer (P source : ℕ) (distances distances′ parents′ left′ right′ values′ : List ℕ) (bag : declared.Bag) : Type 0 where
   pub labels : labelsOf distances′ parents′ ≡ openingLabels (length distances) source
-  pub held : heldBy left′ right′ number′ slots ≡ bagInsert source emptyBag
-  pub pool : Pooled left′ right′ (slots ∷ [])
-  pub whole : weighNodes one left′ right′ (slots ∷ []) + weighFree one left′ ≡ P * length distances
+  pub held : heldBy left′ right′ values′ bag ≡ bagInsert source emptyBag
+  pub pool : Pooled left′ right′ (bag ∷ [])
+  pub whole : weighNodes one left′ right′ (bag ∷ []) + weighFree one left′ ≡ P * length distances

@@ -17,15 +17,18 @@ pub fn open(
     parents: &mut [u16],
     left: &mut [u16],
     right: &mut [u16],
-    number: &mut [u16],
+    values: &mut [u16],
 ) -> Bag
     requires { ⌜ source < length (now distances) ⌝ }
-    requires { ⌜ Sized workers (now distances) (now parents) (now left) (now right) (now number) ⌝ }
-    ensures { λ r. ⌜ FirstLayer workers source (now (distances .entry)) (now (distances .exit)) (now (parents .exit)) (now (left .exit)) (now (right .exit)) (now (number .exit)) (r .slots) ⌝ }
+    requires { ⌜ Sized workers (now distances) (now parents) (now left) (now right) (now values) ⌝ }
+    ensures { λ r. ⌜
+        FirstLayer workers source (now (distances .entry)) (now (distances .exit)) (now (parents .exit))
+        (now (left .exit)) (now (right .exit)) (now (values .exit)) r
+        ⌝ }
 {
     label(source, distances, parents);
     bag::pool(left, workers * distances.len());
-    bag::insert(bag::empty(), source, left, right, number)
+    bag::insert(bag::empty(), source, left, right, values)
 }
 
 // The labels of the opening.

@@ -10,7 +10,7 @@ pub use Rattle.pennant.proofs.Shapes.{shaped-empty, shaped-insert, shap
 -- Sizes: what a slot, a half and a bag hold.
 pub use Rattle.pennant.proofs.Sizes.{slot-size, no-slot-above, two-size, split-sizes, split-filled, size-within}
 -- Lengths: the backbone keeps its 16 slots.
-pub use Rattle.pennant.proofs.Sizes.{length-empty, length-insert, length-union, length-first, length-second, length-rest}
+pub use Rattle.pennant.proofs.Sizes.{length-empty, empty-bare, length-insert, length-union, length-first, length-second, length-rest}
 -- Maps: every operation gives the same trees whatever numbers they hold.
 pub use Rattle.pennant.proofs.Maps.{map-empty, map-insert, map-union, map-first, map-second, map-rest, map-taken, map-is-empty, map-at-least-two}
 pub use Rattle.pennant.proofs.Maps.{map-length, map-same, weigh-map, shaped-map}

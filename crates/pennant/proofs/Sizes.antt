@@ -7,7 +7,7 @@ use Prim.Native.Nat.{ℕ, zero, suc, _+_, _-_, _/_, _^_, _≤_, _<_}
 use native.Mathlib.Nat.{add-zero, zero-add, add-suc, suc-add, pow-le-pow-right}
 use native.Mathlib.Omega.{arith}
 use lib.Dec.{leb, ltb}
-use lib.ListN.{length, getD, length-append, length-map, length-replicate}
+use lib.ListN.{length, getD, replicate, length-append, length-map, length-replicate}
 use borrow.Author.Tests.{leb-true, le-leb, lt-leb, ltb-true, ltb-false}
 use Rattle.lists.specs.Lists.{sumOf}
 use Rattle.pennant.specs.Pennant.{Tree, null, node, Slot, gap, tip, pennantUnion, pennantFirst, pennantSecond}
@@ -136,6 +136,18 @@ size-within s h = omega (arith, rw (zero-add (length s)) at (size-from 0 s h))
 pub length-empty : length emptyBag ≡ slotCount
 unfolding emptyBag
 length-empty = length-replicate slotCount gap
+
+-- slots that are all empty are gaps
+gaps : (s : Bag) → isEmpty s ≡ true → s ≡ replicate (length s) gap
+unfolding isEmpty
+gaps [] empty = refl
+gaps (gap ∷ s) empty = ap (λ (t : Bag). gap ∷ t) (gaps s empty)
+gaps (tip a t ∷ s) empty = absurd (true≢false (sym empty))
+
+-- of 16 slots there is one empty bag
+pub empty-bare : (s : Bag) → isEmpty s ≡ true → length s ≡ slotCount → s ≡ emptyBag
+unfolding emptyBag
+empty-bare s empty long = gaps s empty ∙ ap (λ (n : ℕ). replicate n gap) long
 
 -- a pennant inserted needs no slot more if there is room
 pub length-insert-pennant : (k : ℕ) (x : Slot) (s : Bag) → Pennant k x → isGap x ≡ false → ShapedFrom k s → weighSlot one x + weigh one s < 2 ^ (k + length s)

@@ -1,39 +1,29 @@
--- The test for an idle crew, worker after worker; and how many workers hold a vertex, which tells of a crew that isn't without looking at any.
-use mathlib.Core.Path.{_≡_, refl, sym, ap, _∙_}
-use mathlib.Core.Bool.{Bool, true, false, _&&_, true≢false}
+-- Which workers hold a vertex, whether all input bags are empty, and that both together are the table's test for a close.
+use mathlib.Core.Path.{_≡_, refl, ap, _∙_}
+use mathlib.Core.Bool.{Bool, true, false, _&&_, and-false}
 use mathlib.Core.Logic.{⊎-elim}
-use mathlib.Core.List.{List, [], _∷_}
+use mathlib.Core.List.{List, [], _∷_, map}
 use Prim.Native.Nat.{ℕ, suc, _+_, _≤_, _<_}
 use native.Mathlib.Numerals.{add-one}
-use native.Mathlib.Decide.{ℕ-discrete}
 use native.Mathlib.Omega.{arith}
 use types.Run.{OneOf}
-use lib.ListN.{length, getD, set, take, drop, drop-of-length-le}
+use lib.ListN.{length, getD, set, take, drop, length-map, drop-of-length-le}
 use lib.Seq.{drop-cons, length-take-le, getD-take, take-set-lt}
 use Rattle.lists.specs.Lists.{sumOf}
-use Rattle.lists.proofs.Sums.{sum-set}
-use Rattle.lists.proofs.Parts.{getD-any}
-use Rattle.pennant.specs.Bag.{slotCount, isEmpty}
-use Rattle.bag.specs.Nodes.{nodesOf, heldBy, emptySlots}
-use Rattle.bag.proofs.HeldFacts.{held-empty, bare-slots}
-use Rattle.model.specs.Table.{isFree, isIdle, allIdle}
+use Rattle.lists.proofs.Sums.{sum-set, sum-within}
+use Rattle.lists.proofs.Replaced.{map-at}
+use Rattle.pennant.specs.Bag.{Bag, emptyBag, isEmpty}
+use Rattle.bag.specs.declared.Bag as declared
+use Rattle.bag.specs.Nodes.{heldBy, pastBag}
+use Rattle.bag.specs.Promises.{Pooled}
+use Rattle.bag.proofs.Family.{pool-one}
+use Rattle.model.specs.Table.{isFree, allIdle}
 use Rattle.workers.specs.declared.Phase.{Phase}
 use Rattle.workers.specs.declared.Phase.the-variants.{Free, Holding, InHand, Marked, Named}
-use Rattle.workers.specs.Shown.{Worker, workerFrom, phaseOf, workerOf, workersOf}
-use Rattle.workers.specs.Steps.{NoInputs, heldOf, activityOf}
+use Rattle.workers.specs.Shown.{crewOf, phaseOf}
+use Rattle.workers.specs.Steps.{heldOf, allEmpty}
 
--- One worker.
-
-module _ (input : List ℕ) {r : Bool} (told : (left right : List ℕ) → r ≡ isEmpty (nodesOf left right input)) where
-  -- a free one is idle if its input bag is empty
-  pub idle-free : {phase : Phase} → phase ≡ Free → (output offsets left right number : List ℕ)
-      → r ≡ isIdle (workerOf offsets left right number (workerFrom input output phase))
-  unfolding workerOf isFree phaseOf
-  idle-free free output offsets left right number = rw free (told left right ∙ sym (held-empty left right number input))
-
-  -- and then nothing is in its slots
-  pub idle-bare : length input ≡ slotCount → r ≡ true → input ≡ emptySlots
-  idle-bare long e = bare-slots [] [] input long (sym (told [] []) ∙ e)
+-- One phase.
 
 -- one that is not free holds a vertex
 pub held-one : (phase : Phase) → (phase ≡ Free → ⊥) → heldOf phase ≡ 1
@@ -47,27 +37,10 @@ held-one (Named u e f t) h = refl
 -- as its tag tells
 pub held-told : (tag : Phase → ℕ) → tag Free ≡ 0 → (phase : Phase) → OneOf (1 ∷ 2 ∷ 3 ∷ 4 ∷ []) (tag phase) → phase ≡ Free → ⊥
 held-told tag none phase told free =
-    ⊎-elim (λ e. omega (arith, ap tag free)) (λ k. ⊎-elim (λ e. omega (arith, ap tag free)) (λ k. ⊎-elim (λ e. omega (arith, ap tag free)) (λ e. omega (arith, ap tag free)) k) k) told
+    ⊎-elim (λ e. omega (arith, ap tag free))
+    (λ k. ⊎-elim (λ e. omega (arith, ap tag free)) (λ k. ⊎-elim (λ e. omega (arith, ap tag free)) (λ e. omega (arith, ap tag free)) k) k) told
 
--- one that is free does not
-pub held-none : (offsets : List ℕ) (phase : Phase) → isFree (phaseOf offsets phase) ≡ true → heldOf phase ≡ 0
-unfolding heldOf isFree phaseOf
-held-none offsets Free e = refl
-held-none offsets (Holding u i f) e = absurd (true≢false (sym e))
-held-none offsets (InHand u i f t) e = absurd (true≢false (sym e))
-held-none offsets (Marked u i f t) e = absurd (true≢false (sym e))
-held-none offsets (Named u i f t) e = absurd (true≢false (sym e))
-
--- and the other way round
-pub held-free : (phase : Phase) → heldOf phase ≡ 0 → phase ≡ Free
-unfolding heldOf
-held-free Free e = refl
-held-free (Holding u i f) e = absurd (omega arith)
-held-free (InHand u i f t) e = absurd (omega arith)
-held-free (Marked u i f t) e = absurd (omega arith)
-held-free (Named u i f t) e = absurd (omega arith)
-
--- it is 1 at most
+-- it counts 1 at most
 pub held-few : (phase : Phase) → heldOf phase ≤ 1
 unfolding heldOf
 held-few Free = omega arith
@@ -76,100 +49,98 @@ held-few (InHand u e f t) = omega arith
 held-few (Marked u e f t) = omega arith
 held-few (Named u e f t) = omega arith
 
--- All of them.
+-- All phases.
 
--- the first P workers are idle if those from w on are
-abbrev pub IdleFrom : List Worker → ℕ → ℕ → Type 0
-IdleFrom crew P w = (offsets left right number : List ℕ)
-    → allIdle (workersOf offsets left right number (take P crew)) ≡ allIdle (workersOf offsets left right number (drop w (take P crew)))
+module _ (phases : List Phase) (P : ℕ) (there : P ≤ length phases) where
+  -- no more count than there are
+  pub busy-few : sumOf heldOf (take P phases) ≤ P
+  busy-few = omega (arith, sum-within heldOf 1 held-few (take P phases), length-take-le P phases there)
 
-module _ (crew : List Worker) (P w : ℕ) (d : Worker) (there : P ≤ length crew) (before : IdleFrom crew P w) (below : w < P) where
-  -- the worker to be tested and those after it
-  next-worker : drop w (take P crew) ≡ getD crew w d ∷ drop (suc w) (take P crew)
-  next-worker = rw (getD-take P crew w d below) at (drop-cons (take P crew) w d (rw (length-take-le P crew there) below))
+  module _ (w : ℕ) (below : w < P) where
+    -- worker w among the first P
+    inside : w < length (take P phases)
+    inside = omega (arith, length-take-le P phases there)
 
-  -- a worker that is not idle
-  pub idle-stop : ((offsets left right number : List ℕ) → false ≡ isIdle (workerOf offsets left right number (getD crew w d)))
-      → (offsets left right number : List ℕ) → false ≡ allIdle (workersOf offsets left right number (take P crew))
-  unfolding allIdle
-  idle-stop busy offsets left right number = rw (before offsets left right number, next-worker, ← busy offsets left right number) refl
+    -- with its phase replaced
+    pub busy-set : (p : Phase) → sumOf heldOf (take P (set phases w p)) + heldOf (getD phases w Free) ≡ sumOf heldOf (take P phases) + heldOf p
+    busy-set p = omega (
+      arith,
+      ap (sumOf heldOf) (take-set-lt P phases w p below),
+      sum-set heldOf (take P phases) w p Free inside,
+      ap heldOf (getD-take P phases w Free below),
+    )
 
-  -- a worker that is
-  pub idle-pass : ((offsets left right number : List ℕ) → true ≡ isIdle (workerOf offsets left right number (getD crew w d))) → IdleFrom crew P (w + 1)
-  unfolding allIdle
-  idle-pass idle offsets left right number = rw (add-one, before offsets left right number, next-worker, ← idle offsets left right number) refl
+    -- one that holds a vertex is counted
+    pub busy-some : heldOf (getD phases w Free) ≤ sumOf heldOf (take P phases)
+    unfolding heldOf
+    busy-some = omega (arith, busy-set Free)
 
--- the input bags before w are empty
-abbrev pub BareBefore : List Worker → ℕ → Type 0
-BareBefore crew w = (d : Worker) (j : ℕ) → j < w → getD crew j d .input ≡ emptySlots
+-- where none counts, all are idle if their input bags are empty
+pub idle-as : (offsets : List ℕ) (inputs outputs : List Bag) (phases : List Phase) → length outputs ≡ length inputs → length phases ≡ length inputs
+    → sumOf heldOf phases ≡ 0 → allIdle (crewOf inputs outputs (map (phaseOf offsets) phases)) ≡ allEmpty inputs
+unfolding crewOf phaseOf allIdle isFree allEmpty heldOf sumOf
+idle-as offsets [] outputs phases h k none = refl
+idle-as offsets (a ∷ inputs) [] phases h k none = absurd (omega arith)
+idle-as offsets (a ∷ inputs) (b ∷ outputs) [] h k none = absurd (omega arith)
+idle-as offsets (a ∷ inputs) (b ∷ outputs) (Free ∷ phases) h k none =
+    ap (λ (x : Bool). isEmpty a && x) (idle-as offsets inputs outputs phases (omega arith) (omega arith) (omega arith))
+idle-as offsets (a ∷ inputs) (b ∷ outputs) (Holding u e f ∷ phases) h k none = absurd (omega arith)
+idle-as offsets (a ∷ inputs) (b ∷ outputs) (InHand u e f t ∷ phases) h k none = absurd (omega arith)
+idle-as offsets (a ∷ inputs) (b ∷ outputs) (Marked u e f t ∷ phases) h k none = absurd (omega arith)
+idle-as offsets (a ∷ inputs) (b ∷ outputs) (Named u e f t ∷ phases) h k none = absurd (omega arith)
 
--- and the next one is
-pub bare-pass : (crew : List Worker) (w : ℕ) (d : Worker) → w < length crew → BareBefore crew w → getD crew w d .input ≡ emptySlots
-    → BareBefore crew (w + 1)
-bare-pass crew w d inside before here e j h = go (ℕ-discrete j w)
-  where
-    go : Dec (j ≡ w) → getD crew j e .input ≡ emptySlots
-    go (yes same) = rw same (ap {B = List ℕ} (λ (x : Worker). x .input) (getD-any crew w e d inside) ∙ here)
-    go (no apart) = before e j (omega arith)
+-- where one counts, not all are
+pub idle-some : (offsets : List ℕ) (inputs outputs : List Bag) (phases : List Phase) → length outputs ≡ length inputs → length phases ≡ length inputs
+    → (sumOf heldOf phases ≡ 0 → ⊥) → allIdle (crewOf inputs outputs (map (phaseOf offsets) phases)) ≡ false
+unfolding crewOf phaseOf allIdle isFree heldOf sumOf
+idle-some offsets [] outputs [] h k some = absurd (some refl)
+idle-some offsets [] outputs (p ∷ phases) h k some = absurd (omega arith)
+idle-some offsets (a ∷ inputs) [] phases h k some = absurd (omega arith)
+idle-some offsets (a ∷ inputs) (b ∷ outputs) [] h k some = absurd (omega arith)
+idle-some offsets (a ∷ inputs) (b ∷ outputs) (Free ∷ phases) h k some =
+    ap (λ (x : Bool). isEmpty a && x) (idle-some offsets inputs outputs phases (omega arith) (omega arith) (λ none. some (omega arith)))
+    ∙ and-false (isEmpty a)
+idle-some offsets (a ∷ inputs) (b ∷ outputs) (Holding u e f ∷ phases) h k some = refl
+idle-some offsets (a ∷ inputs) (b ∷ outputs) (InHand u e f t ∷ phases) h k some = refl
+idle-some offsets (a ∷ inputs) (b ∷ outputs) (Marked u e f t ∷ phases) h k some = refl
+idle-some offsets (a ∷ inputs) (b ∷ outputs) (Named u e f t ∷ phases) h k some = refl
 
--- so all are
-pub bare-done : (crew : List Worker) (P w : ℕ) → P ≤ length crew → BareBefore crew w → P ≤ w → NoInputs (take P crew)
-bare-done crew P w there before past d j h =
-    let below : j < P = omega (arith, length-take-le P crew there) in
-    rw (getD-take P crew j d below) (before d j (omega arith))
+-- All input bags, one after the other.
 
--- the last one passed
-pub idle-done : (crew : List Worker) (P w : ℕ) → P ≤ length crew → IdleFrom crew P w → P ≤ w → (offsets left right number : List ℕ)
-    → true ≡ allIdle (workersOf offsets left right number (take P crew))
-unfolding allIdle
-idle-done crew P w there before past offsets left right number =
-    rw (before offsets left right number, drop-of-length-le (take P crew) {i = w} (rw (length-take-le P crew there) past))
+-- those from w on are empty if this one is and those after it
+empty-next : (bags : List Bag) (w : ℕ) → w < length bags → allEmpty (drop w bags) ≡ (isEmpty (getD bags w emptyBag) && allEmpty (drop (suc w) bags))
+unfolding allEmpty
+empty-next bags w h = ap allEmpty (drop-cons bags w emptyBag h)
 
--- How many hold a vertex.
+-- past the last there is none
+empty-none : (bags : List Bag) (w : ℕ) → length bags ≤ w → allEmpty (drop w bags) ≡ true
+unfolding allEmpty
+empty-none bags w h = ap allEmpty (drop-of-length-le bags h)
 
--- both of two tests
-and-both : (a b : Bool) → (a && b) ≡ true → (a ≡ true) × (b ≡ true)
-and-both true b e = (refl, e)
-and-both false b e = absurd (true≢false (sym e))
+module _ (inputs : List declared.Bag) (P : ℕ) (there : P ≤ length inputs) (left right values : List ℕ) (pool : Pooled left right (take P inputs)) where
+  -- what the first P hold
+  abbrev held-all : List Bag
+  held-all = map (heldBy left right values) (take P inputs)
 
--- an idle worker is free
-idle-phase : (offsets left right number : List ℕ) (x : Worker) → isIdle (workerOf offsets left right number x) ≡ true → isFree (phaseOf offsets (x .phase)) ≡ true
-unfolding workerOf
-idle-phase offsets left right number x idle = and-both (isFree (phaseOf offsets (x .phase))) (isEmpty (heldBy left right number (x .input))) idle .0
+  -- as many
+  held-long : length held-all ≡ P
+  held-long = length-map (take P inputs) (heldBy left right values) ∙ length-take-le P inputs there
 
--- with all idle, none does
-pub idle-none : (offsets left right number : List ℕ) (crew : List Worker) → allIdle (workersOf offsets left right number crew) ≡ true
-    → sumOf activityOf crew ≡ 0
-unfolding allIdle sumOf
-idle-none offsets left right number [] idle = refl
-idle-none offsets left right number (x ∷ crew) idle =
-    let both = and-both (isIdle (workerOf offsets left right number x)) (allIdle (workersOf offsets left right number crew)) idle in
-    omega (arith, held-none offsets (x .phase) (idle-phase offsets left right number x (both .0)), idle-none offsets left right number crew (both .1))
+  module _ (w : ℕ) (below : w < P) where
+    -- one of them
+    pub one-pooled : Pooled left right (getD inputs w pastBag ∷ [])
+    one-pooled = rw (getD-take P inputs w pastBag below) at (pool-one (take P inputs) w pool (omega (arith, length-take-le P inputs there)))
 
--- so with one that does, not all are
-pub idle-some : (offsets left right number : List ℕ) (crew : List Worker) → (sumOf activityOf crew ≡ 0 → ⊥)
-    → allIdle (workersOf offsets left right number crew) ≡ false
-idle-some offsets left right number crew some = go (allIdle (workersOf offsets left right number crew)) refl
-  where
-    go : (b : Bool) → allIdle (workersOf offsets left right number crew) ≡ b → b ≡ false
-    go true e = absurd (some (idle-none offsets left right number crew e))
-    go false e = refl
+    one-held : getD held-all w emptyBag ≡ heldBy left right values (getD inputs w pastBag)
+    one-held =
+        map-at (heldBy left right values) (take P inputs) w pastBag emptyBag (omega (arith, length-take-le P inputs there))
+        ∙ ap (heldBy left right values) (getD-take P inputs w pastBag below)
 
--- no more than there are workers
-pub activities-few : (crew : List Worker) → sumOf activityOf crew ≤ length crew
-unfolding sumOf
-activities-few [] = omega arith
-activities-few (x ∷ crew) = omega (arith, held-few (x .phase), activities-few crew)
+    -- the next is empty, or not
+    pub empty-step : {b : Bool} → b ≡ isEmpty (heldBy left right values (getD inputs w pastBag))
+        → allEmpty (drop w held-all) ≡ (b && allEmpty (drop (w + 1) held-all))
+    empty-step told = rw (told, ← one-held, add-one) (empty-next held-all w (rw held-long below))
 
-module _ (crew : List Worker) (P : ℕ) (d : Worker) (there : P ≤ length crew) where
-  -- with one replaced among the first P
-  pub activity-set : (w : ℕ) (x : Worker) → w < P
-      → sumOf activityOf (take P (set crew w x)) + activityOf (getD crew w d) ≡ sumOf activityOf (take P crew) + activityOf x
-  activity-set w x below =
-      let inside : w < length (take P crew) = omega (arith, length-take-le P crew there) in
-      omega (
-        arith,
-        ap (sumOf activityOf) (take-set-lt P crew w x below),
-        sum-set activityOf (take P crew) w x d inside,
-        ap activityOf (getD-take P crew w d below),
-      )
+  -- past the last
+  pub empty-end : (w : ℕ) → P ≤ w → allEmpty (drop w held-all) ≡ true
+  empty-end w past = empty-none held-all w (rw held-long past)

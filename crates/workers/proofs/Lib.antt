@@ -1,9 +1,9 @@
--- Facts of the workers.
+-- Facts about workers that the proofs of this crate and of the engine go by.
 pub mod RowFacts
-pub mod PutFacts
 pub mod MoveFacts
 pub mod CrewFacts
-pub mod PartsFacts
-pub mod ExchangeFacts
 pub mod IdleFacts
+pub mod PairFacts
+pub mod BagsFacts
+pub mod OpenedFacts
 pub mod GatherFacts

@@ -6,7 +6,7 @@ use mathlib.Core.Option.{none, some}
 use Prim.Native.Nat.{ℕ, suc, _+_, _-_, _≤_, _<_}
 use native.Mathlib.Omega.{arith}
 use lib.Dec.{ltb, eqb}
-use lib.ListN.{length, getD, set}
+use lib.ListN.{length, getD, set, length-set}
 use borrow.Author.Tests.{ltb-true, ltb-false, lt-ltb, le-ltb, ne-eqb}
 use Rattle.numbers.specs.Numbers.{unset}
 use Rattle.graph.specs.Graph.{edges, rowsOf}
@@ -19,7 +19,7 @@ use Rattle.workers.specs.declared.Phase.{Phase}
 use Rattle.workers.specs.declared.Phase.the-variants.{Free, Holding, InHand, Marked, Named}
 use Rattle.model.specs.Words.{optionOf, labelsOf}
 use Rattle.workers.specs.Shown.{phaseOf}
-use Rattle.workers.specs.Steps.{EdgeOf, Fits, holdFrom, lookAt, Advanced}
+use Rattle.workers.specs.Steps.{EdgeOf, InRows, holdFrom, lookAt, Advanced}
 use Rattle.model.proofs.WordFacts.{label-at, mark-shown, name-shown}
 
 -- what an edge of a vertex needs no test for: each index is in its list and fits 16 bits
@@ -48,11 +48,11 @@ module _ {offsets targets : List ℕ} {n : ℕ} (ground : GraphRows offsets targ
       go false q = rw (q, le-ltb (e - start) size (omega (arith, ltb-false e (getD offsets (u + 1) 0) q, row-ends ground u h)))
 
   -- and fits
-  pub hold-fits : (u e : ℕ) → u < n → getD offsets u 0 ≤ e → Fits offsets n (holdFrom offsets u e)
+  pub hold-fits : (u e : ℕ) → u < n → getD offsets u 0 ≤ e → InRows offsets n (holdFrom offsets u e)
   unfolding holdFrom
   hold-fits u e h k = go (ltb e (getD offsets (u + 1) 0)) refl
     where
-      go : (b : Bool) → ltb e (getD offsets (u + 1) 0) ≡ b → Fits offsets n (cond b (Holding u e (getD offsets (u + 1) 0)) Free)
+      go : (b : Bool) → ltb e (getD offsets (u + 1) 0) ≡ b → InRows offsets n (cond b (Holding u e (getD offsets (u + 1) 0)) Free)
       go true q = record { vertex = h; first = k; last = ltb-true e (getD offsets (u + 1) 0) q; ends = refl }
       go false q = tt
 
@@ -112,7 +112,7 @@ module _ {offsets targets : List ℕ} {n : ℕ} (ground : GraphRows offsets targ
       ∙ ap (λ (i : ℕ). holdAt (rowsOf offsets targets) u i) edge-next
 
   -- and fits
-  pub pass-fits : Fits offsets n (holdFrom offsets u (e + 1))
+  pub pass-fits : InRows offsets n (holdFrom offsets u (e + 1))
   pass-fits = hold-fits ground u (e + 1) (edge .vertex) (omega (arith, edge .first))
 
 -- The three moves without a bag.
@@ -139,11 +139,11 @@ module _ {offsets targets : List ℕ} (distances : List ℕ) (ground : GraphRows
       go false = pass-shown ground edge
 
   -- what it finds fits
-  look-fits : Fits offsets (length distances) (lookAt offsets targets distances u e)
+  look-fits : InRows offsets (length distances) (lookAt offsets targets distances u e)
   unfolding lookAt
   look-fits = go (eqb (getD distances (getD targets e 0) 0) unset)
     where
-      go : (b : Bool) → Fits offsets (length distances) (cond b (InHand u e (getD offsets (u + 1) 0) (getD targets e 0)) (holdFrom offsets u (e + 1)))
+      go : (b : Bool) → InRows offsets (length distances) (cond b (InHand u e (getD offsets (u + 1) 0) (getD targets e 0)) (holdFrom offsets u (e + 1)))
       go true = (
         record { vertex = edge .vertex; first = edge .first; last = edge .last; ends = refl },
         edge-small ground edge .target-below,
@@ -156,7 +156,9 @@ module _ {offsets targets : List ℕ} (distances : List ℕ) (ground : GraphRows
   unfolding move phaseOf
   advance-look layer parents = record {
     made = λ input output. ap (λ (phase : model.Phase). some (model.workerWith input output phase, labelsOf distances parents)) (sym (look-shown parents));
-    phase-fits = look-fits;
+    in-rows = look-fits;
+    distances-length = refl;
+    parents-length = refl;
   }
 
   -- mark
@@ -167,7 +169,9 @@ module _ {offsets targets : List ℕ} (distances : List ℕ) (ground : GraphRows
     made = λ input output.
         ap (λ (x : Labels). some (model.workerWith input output (model.marked u (e - getD offsets u 0) t), x))
         (sym (mark-shown distances parents t layer (omega (arith, ground .few-vertices))));
-    phase-fits = (edge, h);
+    in-rows = (edge, h);
+    distances-length = length-set distances t (layer + 1);
+    parents-length = refl;
   }
 
   -- name
@@ -178,17 +182,19 @@ module _ {offsets targets : List ℕ} (distances : List ℕ) (ground : GraphRows
     made = λ input output.
         ap (λ (x : Labels). some (model.workerWith input output (model.named u (e - getD offsets u 0) t), x))
         (sym (name-shown distances parents t u (omega (arith, ground .few-vertices, edge .vertex))));
-    phase-fits = (edge, h);
+    in-rows = (edge, h);
+    distances-length = refl;
+    parents-length = length-set parents t u;
   }
 
 -- The same of a phase that is known to be one of the three.
 
 -- a phase that fits, by what it is known to be
-pub fits-as : (offsets : List ℕ) (n : ℕ) {phase p : Phase} → phase ≡ p → Fits offsets n phase → Fits offsets n p
-fits-as offsets n is fits = subst (Fits offsets n) is fits
+pub fits-as : (offsets : List ℕ) (n : ℕ) {phase p : Phase} → phase ≡ p → InRows offsets n phase → InRows offsets n p
+fits-as offsets n is fits = subst (InRows offsets n) is fits
 
 module _ {offsets targets : List ℕ} (distances : List ℕ) (ground : GraphRows offsets targets (length distances)) (phase : Phase)
-    (fits : Fits offsets (length distances) phase) (layer : ℕ) (parents : List ℕ) where
+    (fits : InRows offsets (length distances) phase) (layer : ℕ) (parents : List ℕ) where
   -- look
   pub advanced-look : (u e f : ℕ) (phase′ : Phase) → phase ≡ Holding u e f → phase′ ≡ lookAt offsets targets distances u e
       → Advanced phase layer offsets targets distances parents distances parents phase′

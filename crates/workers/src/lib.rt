@@ -1,20 +1,23 @@
-// The workers of a search: what one of them does at an event, when two may exchange bags, and what all
-// do at a close. All workers' input bags, output bags and phases stand in three arrays, so that an
-// event stores what it changes and nothing else. These are inner steps: they may assume what their
-// callers prove.
+// The workers of a search: what one of them does at an event, what two exchange, and what all do at a
+// close. All workers' input bags, output bags and phases stand in three arrays; a step takes the bags
+// and the phase that it is about, by value, and gives them back. These are inner steps: they may
+// assume what their callers prove.
+use bag::Bag;
+
 mod crew;
 mod moves;
+mod pairs;
 
 pub use crew::all_empty;
 pub use crew::all_free;
-pub use crew::can_split;
-pub use crew::can_unite;
 pub use crew::first_of_eight;
 pub use crew::gather;
-pub use crew::held;
+pub use crew::recount;
 pub use moves::advance;
 pub use moves::begin;
 pub use moves::stow;
+pub use pairs::split;
+pub use pairs::unite;
 
 // "A worker is free, holds a device with a link to look at, or is partway through a link": the
 // vertex, its edge by its place in the targets, where the vertex's edges end, and the edge's target.
@@ -43,4 +46,23 @@ pub enum Phase {
         end: usize,
         target: u16,
     },
+}
+
+// A worker that has taken from its input bag: what is left there, and its phase.
+pub struct Begun {
+    pub input: Bag,
+    pub phase: Phase,
+}
+
+// A worker that has stowed in its output bag: what is there now, and its phase.
+pub struct Stowed {
+    pub output: Bag,
+    pub phase: Phase,
+}
+
+// The bags of w and v after an exchange, and 1 if its condition was met, else 0.
+pub struct Exchange {
+    pub first: Bag,
+    pub second: Bag,
+    pub met: usize,
 }

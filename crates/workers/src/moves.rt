@@ -5,13 +5,15 @@ ghost use mathlib.Core.List.{List, [], _∷_};
 ghost use Prim.Native.Nat.{ℕ, _+_, _≤_, _<_};
 ghost use lib.ListN.{length, getD};
 ghost use Rattle.pennant.specs.Held.{copies};
-ghost use Rattle.pennant.specs.Bag.{isEmpty, slotCount};
-ghost use Rattle.bag.specs.Nodes.{nodesOf, heldBy};
-ghost use Rattle.bag.specs.Promises.{Pooled};
+ghost use Rattle.pennant.specs.Bag.{isEmpty};
+ghost use Rattle.bag.specs.Nodes.{heldBy};
+ghost use Rattle.bag.specs.Promises.{Pooled, Inserted};
 ghost use Rattle.graph.specs.Steps.{GraphRows};
-ghost use Rattle.workers.specs.Shown.{workerFrom};
-ghost use Rattle.workers.specs.Steps.{Fits, holdFrom, lookAt, Between, Advanced, Stocked, TookFrom, StowedInto};
+ghost use Rattle.workers.specs.Steps.{InRows, holdFrom, lookAt, Between, Advanced, BegunFrom};
+use crate::Begun;
 use crate::Phase;
+use crate::Stowed;
+use bag::Bag;
 use graph::words::element;
 use graph::words::wide16;
 use lists::at;
@@ -33,7 +35,10 @@ fn look(vertex: u16, edge: usize, end: usize, targets: &[u16], distances: &[u16]
     requires { ⌜ edge < length (now targets) ⌝ }
     requires { ⌜ edge + 1 < 65536 ⌝ }
     requires { ⌜ getD (now targets) edge 0 < length (now distances) ⌝ }
-    ensures { λ r. ⌜ ((offsets : List ℕ) → end ≡ getD offsets (vertex + 1) 0 → r ≡ lookAt offsets (now (targets .entry)) (now (distances .entry)) vertex edge) ⌝ }
+    ensures { λ r. ⌜
+        ((offsets : List ℕ) → end ≡ getD offsets (vertex + 1) 0
+        → r ≡ lookAt offsets (now (targets .entry)) (now (distances .entry)) vertex edge)
+        ⌝ }
 {
     let target = targets[edge];
     if at(distances, target) == numbers::UNSET {
@@ -59,9 +64,10 @@ pub fn advance(
     requires { ⌜ layer + 1 < 65536 ⌝ }
     requires { ⌜ Between (now targets) (length (now distances)) phase ⌝ }
     ensures { λ r. ⌜
-        ((offsets : List ℕ) → GraphRows offsets (now (targets .entry)) (length (now (distances .entry))) → layer < length (now (distances .entry))
-        → Fits offsets (length (now (distances .entry))) phase
-        → Advanced phase layer offsets (now (targets .entry)) (now (distances .entry)) (now (parents .entry)) (now (distances .exit)) (now (parents .exit)) r)
+        ((offsets : List ℕ) → GraphRows offsets (now (targets .entry)) (length (now (distances .entry)))
+        → layer < length (now (distances .entry)) → InRows offsets (length (now (distances .entry))) phase
+        → Advanced phase layer offsets (now (targets .entry)) (now (distances .entry)) (now (parents .entry))
+        (now (distances .exit)) (now (parents .exit)) r)
         ⌝ }
 {
     match phase {
@@ -104,58 +110,55 @@ pub fn advance(
     }
 }
 
-// "Free: it takes from its input bag, if that isn't empty": of a bag that isn't. Gives the phase.
-pub fn begin(
-    input: &mut [u16; 16],
-    offsets: &[u16],
-    left: &mut [u16],
-    right: &[u16],
-    number: &[u16],
-) -> Phase
-    requires { ⌜ Pooled (now left) (now right) (now input ∷ []) ⌝ }
-    requires { ⌜ length (now left) ≤ length (now number) ⌝ }
-    requires { ⌜ isEmpty (nodesOf (now left) (now right) (now input)) ≡ false ⌝ }
-    requires { ⌜ ((v : ℕ) → 1 ≤ copies v (heldBy (now left) (now right) (now number) (now input)) → v + 1 < length (now offsets)) ⌝ }
-    requires { ⌜ length (now input) ≡ slotCount ⌝ }
-    ensures { λ r. ⌜
-        ((output : List ℕ) → Stocked (workerFrom (now (input .entry)) output Phase.Free) (now (left .entry)) (now (right .entry)) (now (number .entry))
-        → TookFrom (workerFrom (now (input .entry)) output Phase.Free) (now (offsets .entry)) (now (left .entry)) (now (right .entry)) (now (number .entry)) (now (left .exit))
-        (workerFrom (now (input .exit)) output r))
+// "Free: it takes from its input bag, if that isn't empty": of a bag that isn't.
+pub fn begin(input: Bag, offsets: &[u16], left: &mut [u16], right: &[u16], values: &[u16]) -> Begun
+    requires { ⌜ Pooled (now left) (now right) (input ∷ []) ⌝ }
+    requires { ⌜ length (now left) ≤ length (now values) ⌝ }
+    requires { ⌜ isEmpty (heldBy (now left) (now right) (now values) input) ≡ false ⌝ }
+    requires { ⌜
+        ((v : ℕ) → 1 ≤ copies v (heldBy (now left) (now right) (now values) input) → v + 1 < length (now offsets))
         ⌝ }
-    ensures { λ _. ⌜ length (now (input .exit)) ≡ slotCount ⌝ }
+    ensures { λ r. ⌜
+        BegunFrom input (now (offsets .entry)) (now (left .entry)) (now (right .entry)) (now (values .entry))
+        (now (left .exit)) (r .input) (r .phase)
+        ⌝ }
 {
-    let vertex = bag::take_from(input, left, right, number);
-    hold(
-        vertex,
-        wide16(at(offsets, vertex)),
-        element(offsets, wide16(vertex) + 1),
-    )
+    let taken = bag::take(input, left, right, values);
+    let rest = taken.bag;
+    let vertex = taken.value;
+    Begun {
+        input: rest,
+        phase: hold(
+            vertex,
+            wide16(at(offsets, vertex)),
+            element(offsets, wide16(vertex) + 1),
+        ),
+    }
 }
 
-// "stow (insert t into its output bag, pass on)". Gives the phase.
+// "stow (insert t into its output bag, pass on)".
 pub fn stow(
-    output: &mut [u16; 16],
+    output: Bag,
     vertex: u16,
     edge: usize,
     end: usize,
     target: u16,
     left: &mut [u16],
     right: &mut [u16],
-    number: &mut [u16],
-) -> Phase
+    values: &mut [u16],
+) -> Stowed
     requires { ⌜ edge + 1 < 65536 ⌝ }
-    requires { ⌜ Pooled (now left) (now right) (now output ∷ []) ⌝ }
-    requires { ⌜ length (now left) ≤ length (now number) ⌝ }
+    requires { ⌜ Pooled (now left) (now right) (output ∷ []) ⌝ }
+    requires { ⌜ length (now left) ≤ length (now values) ⌝ }
     requires { ⌜ (getD (now left) 0 0 ≡ 0 → ⊥) ⌝ }
-    requires { ⌜ length (now output) ≡ slotCount ⌝ }
     ensures { λ r. ⌜
-        ((input : List ℕ) (offsets : List ℕ) → end ≡ getD offsets (vertex + 1) 0
-        → Stocked (workerFrom input (now (output .entry)) (Phase.Named vertex edge end target)) (now (left .entry)) (now (right .entry)) (now (number .entry))
-        → StowedInto (workerFrom input (now (output .entry)) (Phase.Named vertex edge end target)) offsets (now (left .entry)) (now (right .entry)) (now (number .entry))
-        (now (left .exit)) (now (right .exit)) (now (number .exit)) (workerFrom input (now (output .exit)) r))
+        Inserted (now (left .entry)) (now (right .entry)) (now (values .entry)) output target
+        (now (left .exit)) (now (right .exit)) (now (values .exit)) (r .output)
         ⌝ }
-    ensures { λ _. ⌜ length (now (output .exit)) ≡ slotCount ⌝ }
+    ensures { λ r. ⌜ ((offsets : List ℕ) → end ≡ getD offsets (vertex + 1) 0 → r .phase ≡ holdFrom offsets vertex (edge + 1)) ⌝ }
 {
-    bag::insert_into(output, target, left, right, number);
-    hold(vertex, edge + 1, end)
+    Stowed {
+        output: bag::insert(output, target, left, right, values),
+        phase: hold(vertex, edge + 1, end),
+    }
 }

@@ -1,11 +1,12 @@
 -- `bag::at_least_two` meets its contract. The invariant: two are held where a slot past slot 0 was found to be filled, else the slots looked at are
 -- empty. The measure is 8 less k.
 use borrow.Author.Needs.{needs}
-use mathlib.Core.Path.{_≡_}
+use mathlib.Core.Path.{_≡_, sym, _∙_}
 use mathlib.Core.Logic.{⊎-elim}
 use Prim.Native.Nat.{_+_, _-_}
 use lib.ListN.{length}
 use Rattle.bag.proofs.FilledFacts.{Seeking, seeking-start, seeking-found, seeking-first, seeking-second, seeking-done}
+use Rattle.bag.proofs.HeldFacts.{held-two}
 use Rattle.bag.proofs.at_least_two.Statement.{statement}
 use Rattle.bag.proofs.at_least_two.Tie as tie
 
@@ -57,7 +58,9 @@ returns c =
     let at-loop = c .before in
     let slots = at-loop .before .before .args .bag .slots in
     let long : length slots ≡ 16 = search needs in
-    seeking-done slots (at-loop .loop .two) (at-loop .loop .k) long (search needs) (at-loop .loop .inv)
+    λ left right values pool.
+    seeking-done slots (at-loop .loop .two) (at-loop .loop .k) long (search needs) (at-loop .loop .inv) left right
+    ∙ sym (held-two left right values (at-loop .before .before .args .bag))
 
 pub at-least-two-spec : {M : Type 1} → statement M
 at-least-two-spec =

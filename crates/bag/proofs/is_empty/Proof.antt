@@ -7,13 +7,14 @@ use mathlib.Core.Logic.{⊎-elim}
 use Prim.Native.Nat.{ℕ, _-_, _<_}
 use lib.ListN.{length, drop}
 use Rattle.pennant.specs.Bag.{isEmpty}
-use Rattle.bag.specs.Nodes.{nodesOf}
+use Rattle.bag.specs.Nodes.{slotNodes}
 use Rattle.bag.proofs.FilledFacts.{none-pass, none-filled, none-end}
+use Rattle.bag.proofs.HeldFacts.{held-empty}
 use Rattle.bag.proofs.is_empty.Statement.{statement}
 use Rattle.bag.proofs.is_empty.Tie as tie
 
 abbrev Inv-loop : tie.InvT-loop
-Inv-loop bag none₀ k₀ none k = (left right : List ℕ) → isEmpty (nodesOf left right bag) ≡ none && isEmpty (drop k (nodesOf left right bag))
+Inv-loop bag none₀ k₀ none k = (left right : List ℕ) → isEmpty (slotNodes left right bag) ≡ none && isEmpty (drop k (slotNodes left right bag))
 
 abbrev μ-loop : tie.MeasureT-loop
 μ-loop bag none₀ k₀ none k = 16 - k
@@ -48,7 +49,9 @@ returns c =
     let at-loop = c .before in
     let slots = at-loop .before .before .args .bag .slots in
     let long : length slots ≡ 16 = search needs in
-    λ left right. sym (at-loop .loop .inv left right ∙ none-end left right slots (at-loop .loop .k) (at-loop .loop .none) (search needs))
+    λ left right values pool.
+    sym (at-loop .loop .inv left right ∙ none-end left right slots (at-loop .loop .k) (at-loop .loop .none) (search needs))
+    ∙ sym (held-empty left right values (at-loop .before .before .args .bag))
 
 pub is-empty-spec : {M : Type 1} → statement M
 is-empty-spec =

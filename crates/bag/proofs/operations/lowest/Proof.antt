@@ -10,19 +10,19 @@ use Rattle.bag.proofs.operations.lowest.Statement.{statement}
 use Rattle.bag.proofs.operations.lowest.Tie as tie
 
 abbrev Inv-loop : tie.InvT-loop
-Inv-loop bag k₀ k = (k < 16) × (firstFilled 0 bag ≡ firstFilled k (drop k bag))
+Inv-loop slots k₀ k = (k < 16) × (firstFilled 0 slots ≡ firstFilled k (drop k slots))
 
 abbrev μ-loop : tie.MeasureT-loop
-μ-loop bag k₀ k = 16 - k
+μ-loop slots k₀ k = 16 - k
 
 loop-holds : tie.Need-loop-holds Inv-loop μ-loop
-loop-holds c = (omega arith, refl)
+loop-holds c = (search needs, refl)
 
-mul-if1 : tie.Need-mul-if1 Inv-loop μ-loop
-mul-if1 c = search needs
+mul-loop : tie.Need-mul-loop Inv-loop μ-loop
+mul-loop c = search needs
 
-element-copy-out-if1 : tie.Need-element-copy-out-if1 Inv-loop μ-loop
-element-copy-out-if1 c = search needs
+array-read-loop : tie.Need-array-read-loop Inv-loop μ-loop
+array-read-loop c = search needs
 
 add-k : tie.Need-add-k Inv-loop μ-loop
 add-k c = search needs
@@ -32,17 +32,17 @@ loop-less c = search needs
 
 loop-again : tie.Need-loop-again Inv-loop μ-loop
 loop-again c =
-    let at-loop = c .before .before in
-    let start = at-loop .before in
-    let slots = start .args .slots .now in
-    let on = at-loop .loop .inv .1 ∙ filled-pass slots (at-loop .loop .k) (omega (arith, at-loop .loop .inv .0, start .pre .1)) (c .if1 .taken) in
-    (omega (arith, start .pre .0, on, filled-from (at-loop .loop .k + 1) (drop (at-loop .loop .k + 1) slots)), on)
+    let at-loop = c .before in
+    let start = at-loop .before .before in
+    let slots = start .args .bag .slots in
+    let on = at-loop .loop .inv .1 ∙ filled-pass slots (at-loop .loop .k) (search needs) (c .loop-test .taken) in
+    (omega (arith, start .pre, on, filled-from (at-loop .loop .k + 1) (drop (at-loop .loop .k + 1) slots)), on)
 
 returns : tie.Need-returns Inv-loop μ-loop
 returns c =
-    let at-loop = c .before .before in
-    let start = at-loop .before in
-    sym (at-loop .loop .inv .1 ∙ filled-here (start .args .slots .now) (at-loop .loop .k) (omega (arith, at-loop .loop .inv .0, start .pre .1)) (c .if1 .left))
+    let at-loop = c .before in
+    let slots = at-loop .before .before .args .bag .slots in
+    sym (at-loop .loop .inv .1 ∙ filled-here slots (at-loop .loop .k) (search needs) (c .loop-test .left))
 
 pub lowest-spec : {M : Type 1} → statement M
 lowest-spec =
@@ -51,8 +51,8 @@ lowest-spec =
     Inv-loop
     μ-loop
     loop-holds
-    mul-if1
-    element-copy-out-if1
+    mul-loop
+    array-read-loop
     add-k
     loop-less
     loop-again

@@ -1,6 +1,5 @@
 -- `bag::operations::split` meets its contract: with slot 0 empty the two halves are whole, else its node is placed in the first.
 use borrow.Author.Needs.{needs}
-use borrow.Author.Needs.{needs}
 use mathlib.Core.Path.{_≡_}
 use lib.ListN.{length}
 use Rattle.bag.proofs.Outcomes.{split-even, odd-loose, split-odd}
@@ -24,17 +23,14 @@ returns c =
     let start = c .before .before .before .before .before .before .before .before .before in
     let a = start .args in
     let shifted = c .before .before .before .shift in
-    let long : length (a .bag .slots) ≡ 16 = search needs in
-    split-even (a .left .now) (a .right .now) (a .bag .slots) (start .pre) long (shifted .last .1 .0) (shifted .result .first .slots) (shifted .result .second .slots) (shifted .ensures) (shifted .kept .1 .0) (c .if1 .taken)
+    split-even (a .left .now) (a .right .now) (a .bag .slots) (start .pre) (shifted .last .1 .0) (shifted .result .first .slots) (shifted .result .second .slots) (shifted .ensures) (shifted .kept .1 .0) (search needs) (search needs) (c .if1 .taken)
 
 place-requires : tie.Need-place-requires
 place-requires c κs =
-    let start = c .before .before .before .before .before .before .before .before .before .before .before .before .before .before .before in
+    let start = c .before .before .before .before .before .before .before .before .before .before .before .before .before in
     let a = start .args in
-    let shifted = c .before .before .before .before .before .before .before .before .before .shift in
-    let long : length (a .bag .slots) ≡ 16 = search needs in
-    let first-long : length (shifted .result .first .slots) ≡ 16 = search needs in
-    (odd-loose (a .left .now) (a .right .now) (a .bag .slots) (start .pre) long (shifted .last .1 .0) (shifted .result .first .slots) (shifted .result .second .slots) (shifted .ensures) (shifted .kept .1 .0) (search needs), first-long)
+    let shifted = c .before .before .before .before .before .before .before .shift in
+    odd-loose (a .left .now) (a .right .now) (a .bag .slots) (start .pre) (shifted .last .1 .0) (shifted .result .first .slots) (shifted .result .second .slots) (shifted .ensures) (shifted .kept .1 .0) (search needs) (search needs) (search needs)
 
 same-length-3 : tie.Need-same-length-3
 same-length-3 c = search needs
@@ -44,13 +40,12 @@ same-length-4 c = search needs
 
 returns-2 : tie.Need-returns-2
 returns-2 c =
-    let start = c .before .before .before .before .before .before .before .before .before .before .before .before .before .before .before .before .before .before .before .before in
+    let start = c .before .before .before .before .before .before .before .before .before .before .before .before .before .before .before .before .before .before in
     let a = start .args in
-    let shifted = c .before .before .before .before .before .before .before .before .before .before .before .before .before .before .shift in
+    let shifted = c .before .before .before .before .before .before .before .before .before .before .before .before .shift in
     let placed = c .before .before .before .before .place in
-    let long : length (a .bag .slots) ≡ 16 = search needs in
-    split-odd (a .left .now) (a .right .now) (a .bag .slots) (start .pre) long (shifted .last .1 .0) (shifted .result .first .slots) (shifted .result .second .slots) (shifted .ensures) (shifted .kept .1 .0) (search needs)
-    (placed .last .1 .1 .0) (placed .last .1 .1 .1 .0) (placed .last .0) (placed .ensures .0) (placed .kept .1 .1 .0) (placed .kept .1 .1 .1 .0)
+    split-odd (a .left .now) (a .right .now) (a .bag .slots) (start .pre) (shifted .last .1 .0) (shifted .result .first .slots) (shifted .result .second .slots) (shifted .ensures) (shifted .kept .1 .0) (search needs) (search needs) (search needs)
+    (placed .last .1 .1 .0) (placed .last .1 .1 .1 .0) (placed .result .slots) (placed .ensures) (placed .kept .1 .1 .0) (placed .kept .1 .1 .1 .0) (search needs)
 
 pub split-spec : {M : Type 1} → statement M
 split-spec =

@@ -1,35 +1,34 @@
 -- `workers::crew::gather` meets its contract. The invariant is Gathering (GatherFacts). The measure is the bags that are left.
 use borrow.Author.Needs.{needs}
-use Prim.Native.Nat.{_-_}
-use native.Mathlib.Omega.{arith}
-use lib.ListN.{take}
+use Prim.Native.Nat.{_-_, _≤_}
+use lib.ListN.{length, take}
 use Rattle.workers.proofs.GatherFacts.{Gathering, gather-start, gather-next-requires, gather-next, gather-last}
 use Rattle.workers.proofs.crew.gather.Statement.{statement}
 use Rattle.workers.proofs.crew.gather.Tie as tie
 
 abbrev Inv-loop : tie.InvT-loop
-Inv-loop outputs workers left₀ right₀ bag₀ next₀ left right bag next = Gathering (bag₀ .slots) (take workers outputs) left₀ right₀ next left right (bag .slots)
+Inv-loop workers left₀ right₀ outputs bag₀ next₀ left right bag next = Gathering bag₀ (take workers outputs) left₀ right₀ next left right bag
 
 abbrev μ-loop : tie.MeasureT-loop
-μ-loop outputs workers left₀ right₀ bag₀ next₀ left right bag next = workers - next
+μ-loop workers left₀ right₀ outputs bag₀ next₀ left right bag next = workers - next
+
+-- there are as many bags as workers
+enough : (c : tie.At-loop Inv-loop μ-loop) → let a = c .before .before .before .args in a .workers ≤ length (a .t2)
+enough c = search needs
 
 loop-holds : tie.Need-loop-holds Inv-loop μ-loop
-loop-holds c =
-    let start = c .before .before in
-    let a = start .args in
-    gather-start (a .first .slots) (take (a .workers) (a .outputs .now)) (a .left .now) (a .right .now) (start .pre .1 .1)
+loop-holds c = search gather-start
 
-mul-slots : tie.Need-mul-slots Inv-loop μ-loop
-mul-slots c = search needs
+mul-union : tie.Need-mul-union Inv-loop μ-loop
+mul-union c = search needs
 
-element-copy-out-slots : tie.Need-element-copy-out-slots Inv-loop μ-loop
-element-copy-out-slots c = search needs
+array-copy-out-union : tie.Need-array-copy-out-union Inv-loop μ-loop
+array-copy-out-union c = search needs
 
 union-requires : tie.Need-union-requires Inv-loop μ-loop
 union-requires c κs =
-    let at-loop = c .before .before .before .before in
-    let start = at-loop .before .before .before in
-    gather-next-requires (start .args .outputs .now) (start .args .workers) (omega (arith, start .pre .0, start .pre .1 .0 .eight)) (at-loop .loop .next) (at-loop .loop .inv) (search needs)
+    let there = enough (c .before .before .before .before) in
+    search gather-next-requires
 
 add-next : tie.Need-add-next Inv-loop μ-loop
 add-next c = search needs
@@ -39,10 +38,8 @@ loop-less c = search needs
 
 loop-again : tie.Need-loop-again Inv-loop μ-loop
 loop-again c =
-    let at-loop = c .before .before .before .before .before .before .before .before .before in
-    let start = at-loop .before .before .before in
-    gather-next (start .args .outputs .now) (start .args .workers) (omega (arith, start .pre .0, start .pre .1 .0 .eight)) (at-loop .loop .next) (at-loop .loop .inv) (search needs)
-    (c .before .before .before .before .union .ensures)
+    let there = enough (c .before .before .before .before .before .before .before .before .before) in
+    search gather-next
 
 same-length : tie.Need-same-length Inv-loop μ-loop
 same-length c = search needs
@@ -52,9 +49,8 @@ same-length-2 c = search needs
 
 returns : tie.Need-returns Inv-loop μ-loop
 returns c =
-    let at-loop = c .before in
-    let start = at-loop .before .before .before in
-    gather-last (start .args .outputs .now) (start .args .workers) (omega (arith, start .pre .0, start .pre .1 .0 .eight)) (at-loop .loop .next) (search needs) (at-loop .loop .inv)
+    let there = enough (c .before) in
+    search gather-last
 
 pub gather-spec : {M : Type 1} → statement M
 gather-spec =
@@ -63,8 +59,8 @@ gather-spec =
     Inv-loop
     μ-loop
     loop-holds
-    mul-slots
-    element-copy-out-slots
+    mul-union
+    array-copy-out-union
     union-requires
     add-next
     loop-less

@@ -1,35 +1,30 @@
--- `workers::moves::begin` meets its contract: the worker takes a vertex and holds it, whatever its output bag is.
+-- `workers::moves::begin` meets its contract: the number that is taken is a vertex, so its row is there, and it is held at its first edge.
 use borrow.Author.Needs.{needs}
 use native.Mathlib.Omega.{arith}
-use mathlib.Core.Path.{_≡_, refl, ap, _∙_}
+use mathlib.Core.Path.{_≡_, ap, _∙_}
 use Prim.Native.Nat.{ℕ, _+_, _<_}
 use lib.ListN.{length, getD}
-use Rattle.workers.specs.declared.Phase.the-variants.{Free}
-use Rattle.workers.specs.Shown.{workerFrom}
-use Rattle.workers.proofs.MoveFacts.{taken-below, begin-held}
+use Rattle.workers.proofs.MoveFacts.{taken-copies, begun-from}
 use Rattle.workers.proofs.moves.begin.Statement.{statement}
 use Rattle.workers.proofs.moves.begin.Tie as tie
 
-take-from-requires : tie.Need-take-from-requires
-take-from-requires c κs =
-    let pre = c .before .before .before .before .before .before .pre in
-    (pre .0, (pre .1 .0, (pre .1 .1 .0, pre .1 .1 .1 .1)))
+take-requires : tie.Need-take-requires
+take-requires c κs = search needs
 
--- the entry, from the call of `take_from`
-abbrev start : tie.After-take-from → tie.Start
-start c = c .before .before .before .before .before .before .before
+-- the entry, from the call of `take`
+abbrev start : tie.After-take → tie.Start
+start c = c .before .before .before .before .before .before
 
 -- the number taken is a vertex
-below : (c : tie.After-take-from) → c .take-from .result + 1 < length (start c .args .offsets .now)
+below : (c : tie.After-take) → c .take .result .value + 1 < length (start c .args .offsets .now)
 below c =
-    let a = start c .args in
-    let taken = c .take-from in
-    start c .pre .1 .1 .1 .0 (taken .result)
-    (taken-below (a .left .now) (a .right .now) (a .number .now) (a .input .now) (taken .last .1 .0) (taken .last .0) (taken .result)
-    (start c .pre .1 .1 .0) (taken .ensures .0))
+    let s = start c in
+    let a = s .args in
+    s .pre .1 .1 .1 (c .take .result .value)
+    (taken-copies (a .left .now) (a .right .now) (a .values .now) (a .input) (s .pre .1 .1 .0) (c .take .ensures))
 
 at-requires : tie.Need-at-requires
-at-requires c κs = omega (arith, below (c .before .before))
+at-requires c κs = omega (arith, below (c .before .before .before))
 
 wide16-requires : tie.Need-wide16-requires
 wide16-requires c κs = search needs
@@ -41,7 +36,7 @@ add-element : tie.Need-add-element
 add-element c = search needs
 
 element-requires : tie.Need-element-requires
-element-requires c κs = omega (arith, below (c .before .before .before .before .before), c .wide162 .ensures .0)
+element-requires c κs = omega (arith, below (c .before .before .before .before .before .before), c .wide162 .ensures .0)
 
 hold-requires : tie.Need-hold-requires
 hold-requires c κs = search needs
@@ -49,31 +44,19 @@ hold-requires c κs = search needs
 same-length : tie.Need-same-length
 same-length c = search needs
 
--- the element read is where the row ends
-row-end : (c : tie.After-element) → let here = c .before .before .before .before .before .before in
-    c .element .result ≡ getD (start here .args .offsets .now) (here .take-from .result + 1) 0
-row-end c =
-    let here = c .before .before .before .before .before .before in
-    c .element .ensures .0 ∙ ap (λ (i : ℕ). getD (start here .args .offsets .now) (i + 1) 0) (c .before .wide162 .ensures .0)
-
 returns : tie.Need-returns
 returns c =
-    let here = c .before .before .before .before .before .before .before in
-    let s = start here in
-    let a = s .args in
-    let taken = here .take-from in
-    let first = c .before .before .before in (
-      λ output stocked. begin-held (workerFrom (a .input .now) output Free) (a .offsets .now) (a .left .now) (a .right .now) (a .number .now)
-          (taken .last .1 .0) (taken .last .0) (taken .result) (first .wide16 .result) (c .hold .result) refl stocked (s .pre .1 .1 .0) (taken .ensures .0)
-          (below here) (first .wide16 .ensures .0 ∙ first .before .at .ensures) (c .hold .ensures (a .offsets .now) (row-end (c .before))),
-      taken .ensures .1,
-    )
+    let here = c .before .before .before .before .before .before .before .before in
+    let offsets = start here .args .offsets .now in
+    let first = c .before .before .before .wide16 .ensures .0 ∙ c .before .before .before .before .at .ensures in
+    let end = c .before .element .ensures .0 ∙ ap (λ (i : ℕ). getD offsets (i + 1) 0) (c .before .before .wide162 .ensures .0) in
+    begun-from (here .take .ensures) first (c .hold .ensures offsets end)
 
 pub begin-spec : {M : Type 1} → statement M
 begin-spec =
     tie.close
     (tie.spec
-    take-from-requires
+    take-requires
     at-requires
     wide16-requires
     wide16-requires-2
