@@ -117,12 +117,14 @@ pub fn run(
                     continue;
                 }
                 let united = gather(inputs[0], outputs, workers, left, right);
-                effective += 1;
+                // "d grows by 1", unless the search is finished; the close is effective either way.
+                let next = layer + 1;
+                let counted = effective + 1;
                 if bag::is_empty(united) {
-                    return conclude(numbers::SUCCESS, used, effective, layer);
+                    return conclude(numbers::SUCCESS, used, counted, layer);
                 }
-                // "d grows by 1".
-                layer += 1;
+                layer = next;
+                effective = counted;
                 inputs = first_of_eight(united);
                 outputs = first_of_eight(bag::empty());
                 phases = all_free();

@@ -402,8 +402,11 @@ gather-requires c κs =
     let bare = bare-of-gather c in
     gather-able (close-turn (close-of-bare bare)) (bare .before .before .if2 .left) (bare .before .all-empty .ensures) (not-false _ (bare .if3 .left))
 
-add-effective-4 : tie.Need-add-effective-4 Inv-loop μ-loop
-add-effective-4 c = record { fits = effective-fits (close-turn (close-of-bare (bare-of-gather (gather-of-test c .before)))) }
+add-next : tie.Need-add-next Inv-loop μ-loop
+add-next c = record { fits = layer-fits (close-turn (close-of-bare (bare-of-gather (gather-of-test c .before))) .going) }
+
+add-counted : tie.Need-add-counted Inv-loop μ-loop
+add-counted c = record { fits = effective-fits (close-turn (close-of-bare (bare-of-gather (gather-of-test c .before)))) }
 
 is-empty-requires-2 : tie.Need-is-empty-requires-2 Inv-loop μ-loop
 is-empty-requires-2 c κs = search needs
@@ -433,9 +436,6 @@ returns c =
     let bare = bare-of-gather (gathered .before) in
     finished-ran (close-turn (close-of-bare bare)) (bare .before .before .if2 .left) (bare .before .all-empty .ensures) (not-false _ (bare .if3 .left))
     (gathered .gather .ensures) (test .is-empty2 .ensures) (c .before .if4 .taken) (c .conclude .ensures)
-
-add-layer : tie.Need-add-layer Inv-loop μ-loop
-add-layer c = record { fits = layer-fits (close-turn (close-of-bare (bare-of-gather (gather-of-test (c .before .before) .before))) .going) }
 
 first-of-eight-requires-3 : tie.Need-first-of-eight-requires-3 Inv-loop μ-loop
 first-of-eight-requires-3 c κs = search needs
@@ -565,7 +565,8 @@ run-spec =
     loop-again-6
     array-copy-out-gather
     gather-requires
-    add-effective-4
+    add-next
+    add-counted
     is-empty-requires-2
     conclude-requires
     same-length
@@ -574,7 +575,6 @@ run-spec =
     same-length-4
     same-length-5
     returns
-    add-layer
     first-of-eight-requires-3
     empty-requires-2
     first-of-eight-requires-4
