@@ -12,12 +12,12 @@ pub fn add_bag(
     base: usize,
     left: &[u16],
     right: &[u16],
-    number: &[u16],
+    values: &[u16],
     nodes: &mut [u16],
     found: &mut [u16],
 ) -> usize {
     let count = nodes_of(bag, left, right, nodes);
-    add_numbers(found, base, nodes, count, number);
+    add_numbers(found, base, nodes, count, values);
     count
 }
 
@@ -30,12 +30,12 @@ pub fn are_parts(
     second: usize,
     left: &[u16],
     right: &[u16],
-    number: &[u16],
+    values: &[u16],
     nodes: &mut [u16],
     found: &mut [u16],
 ) -> bool {
-    let a = add_bag(bags[0], 0, left, right, number, nodes, found);
-    let b = add_bag(bags[1], 0, left, right, number, nodes, found);
+    let a = add_bag(bags[0], 0, left, right, values, nodes, found);
+    let b = add_bag(bags[1], 0, left, right, values, nodes, found);
     let all = total(found, 0, found.len());
     (a == first) & (b == second) & are_ones(found, 0, count) & (all == count)
 }

@@ -36,20 +36,20 @@ pub fn add_nodes(met: &mut [u16], nodes: &[u16], count: usize) {
 }
 
 // Counts the number of each of the first `count` nodes, in the row at `base`.
-pub fn add_numbers(counts: &mut [u16], base: usize, nodes: &[u16], count: usize, number: &[u16]) {
+pub fn add_numbers(counts: &mut [u16], base: usize, nodes: &[u16], count: usize, values: &[u16]) {
     let mut i = 0;
     while i < count {
-        let value = at_place(number, at_place(nodes, i) as usize) as usize;
+        let value = at_place(values, at_place(nodes, i) as usize) as usize;
         raise(counts, std::num::wrapping_add_usize(base, value));
         i += 1;
     }
 }
 
 // How many numbers are counted in the row at `base`.
-pub fn total(counts: &[u16], base: usize, values: usize) -> usize {
+pub fn total(counts: &[u16], base: usize, places: usize) -> usize {
     let mut sum = 0;
     let mut value = 0;
-    while value < values {
+    while value < places {
         let count = at_place(counts, std::num::wrapping_add_usize(base, value)) as usize;
         sum = std::num::wrapping_add_usize(sum, count);
         value += 1;
@@ -58,9 +58,9 @@ pub fn total(counts: &[u16], base: usize, values: usize) -> usize {
 }
 
 // Moves the counts of one row to another.
-pub fn pour(counts: &mut [u16], from: usize, to: usize, values: usize) {
+pub fn pour(counts: &mut [u16], from: usize, to: usize, places: usize) {
     let mut value = 0;
-    while value < values {
+    while value < places {
         let source = std::num::wrapping_add_usize(from, value);
         let target = std::num::wrapping_add_usize(to, value);
         let moved = at_place(counts, source);
@@ -72,9 +72,9 @@ pub fn pour(counts: &mut [u16], from: usize, to: usize, values: usize) {
 }
 
 // Copies a row of one list of counts to another's.
-pub fn copy_row(counts: &mut [u16], from: &[u16], base: usize, values: usize) {
+pub fn copy_row(counts: &mut [u16], from: &[u16], base: usize, places: usize) {
     let mut value = 0;
-    while value < values {
+    while value < places {
         let place = std::num::wrapping_add_usize(base, value);
         store(counts, place, at_place(from, place));
         value += 1;
@@ -88,10 +88,10 @@ pub fn is_sum(
     parts: &[u16],
     first: usize,
     second: usize,
-    values: usize,
+    places: usize,
 ) -> bool {
     let mut value = 0;
-    while value < values {
+    while value < places {
         let a = at_place(parts, std::num::wrapping_add_usize(first, value));
         let b = at_place(parts, std::num::wrapping_add_usize(second, value));
         let sum = at_place(counts, std::num::wrapping_add_usize(base, value));

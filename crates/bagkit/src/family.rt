@@ -4,7 +4,7 @@ ghost use Prim.Native.Nat.{_<_, _≤_};
 ghost use mathlib.Core.Path.{_≡_};
 ghost use lib.ListN.{length};
 ghost use Rattle.bag.specs.Promises.{Pooled};
-ghost use Rattle.bagkit.specs.Family.{Room, slotsOf};
+ghost use Rattle.bagkit.specs.Family.{Room};
 use crate::counts::raise;
 use bag::Bag;
 
@@ -19,7 +19,7 @@ pub fn start(left: &mut [u16], right: &[u16], nodes: usize) -> [Bag; 4]
     requires { ⌜ nodes < length (now left) ⌝ }
     requires { ⌜ length (now left) ≤ 65536 ⌝ }
     requires { ⌜ length (now left) ≤ length (now right) ⌝ }
-    ensures { λ r. ⌜ Pooled (now (left .exit)) (now (right .entry)) (slotsOf r) ⌝ }
+    ensures { λ r. ⌜ Pooled (now (left .exit)) (now (right .entry)) r ⌝ }
 {
     bag::pool(left, nodes);
     let none = bag::empty();
@@ -33,12 +33,12 @@ pub fn put(
     value: u16,
     left: &mut [u16],
     right: &mut [u16],
-    number: &mut [u16],
+    values: &mut [u16],
 ) -> [Bag; 4]
-    requires { ⌜ Pooled (now left) (now right) (slotsOf bags) ⌝ }
-    requires { ⌜ length (now left) ≤ length (now number) ⌝ }
+    requires { ⌜ Pooled (now left) (now right) bags ⌝ }
+    requires { ⌜ length (now left) ≤ length (now values) ⌝ }
     requires { ⌜ i < 4 ⌝ }
-    ensures { λ r. ⌜ Pooled (now (left .exit)) (now (right .exit)) (slotsOf r) ⌝ }
+    ensures { λ r. ⌜ Pooled (now (left .exit)) (now (right .exit)) r ⌝ }
 {
     if left.len() == 0 {
         return bags;
@@ -48,38 +48,38 @@ pub fn put(
     }
     let old = bags[i];
     let mut after = bags;
-    after[i] = bag::insert(old, value, left, right, number);
+    after[i] = bag::insert(old, value, left, right, values);
     after
 }
 
 // Takes a number from bag i; 0 where the bag is empty.
-pub fn draw(bags: [Bag; 4], i: usize, left: &mut [u16], right: &[u16], number: &[u16]) -> Drawn
-    requires { ⌜ Pooled (now left) (now right) (slotsOf bags) ⌝ }
-    requires { ⌜ length (now left) ≤ length (now number) ⌝ }
+pub fn draw(bags: [Bag; 4], i: usize, left: &mut [u16], right: &[u16], values: &[u16]) -> Drawn
+    requires { ⌜ Pooled (now left) (now right) bags ⌝ }
+    requires { ⌜ length (now left) ≤ length (now values) ⌝ }
     requires { ⌜ i < 4 ⌝ }
-    ensures { λ r. ⌜ Pooled (now (left .exit)) (now (right .entry)) (slotsOf (r .bags)) ⌝ }
+    ensures { λ r. ⌜ Pooled (now (left .exit)) (now (right .entry)) (r .bags) ⌝ }
 {
     let old = bags[i];
     if bag::is_empty(old) {
         return Drawn { bags, value: 0 };
     }
-    let taken = bag::take(old, left, right, number);
+    let taken = bag::take(old, left, right, values);
     let rest = taken.bag;
     let mut after = bags;
     after[i] = rest;
     Drawn {
         bags: after,
-        value: taken.number,
+        value: taken.value,
     }
 }
 
 // Unites bag j into bag i, and leaves an empty bag at j.
 pub fn unite(bags: [Bag; 4], i: usize, j: usize, left: &mut [u16], right: &mut [u16]) -> [Bag; 4]
-    requires { ⌜ Pooled (now left) (now right) (slotsOf bags) ⌝ }
+    requires { ⌜ Pooled (now left) (now right) bags ⌝ }
     requires { ⌜ i < 4 ⌝ }
     requires { ⌜ j < 4 ⌝ }
     requires { ⌜ (i ≡ j → ⊥) ⌝ }
-    ensures { λ r. ⌜ Pooled (now (left .exit)) (now (right .exit)) (slotsOf r) ⌝ }
+    ensures { λ r. ⌜ Pooled (now (left .exit)) (now (right .exit)) r ⌝ }
 {
     let first = bags[i];
     let second = bags[j];
@@ -91,11 +91,11 @@ pub fn unite(bags: [Bag; 4], i: usize, j: usize, left: &mut [u16], right: &mut [
 
 // Splits bag i, its second half into bag j, unless j holds something.
 pub fn divide(bags: [Bag; 4], i: usize, j: usize, left: &mut [u16], right: &mut [u16]) -> [Bag; 4]
-    requires { ⌜ Pooled (now left) (now right) (slotsOf bags) ⌝ }
+    requires { ⌜ Pooled (now left) (now right) bags ⌝ }
     requires { ⌜ i < 4 ⌝ }
     requires { ⌜ j < 4 ⌝ }
     requires { ⌜ (i ≡ j → ⊥) ⌝ }
-    ensures { λ r. ⌜ Pooled (now (left .exit)) (now (right .exit)) (slotsOf r) ⌝ }
+    ensures { λ r. ⌜ Pooled (now (left .exit)) (now (right .exit)) r ⌝ }
 {
     let whole = bags[i];
     let other = bags[j];
@@ -119,18 +119,18 @@ pub fn fill(
     count: u16,
     left: &mut [u16],
     right: &mut [u16],
-    number: &mut [u16],
+    values: &mut [u16],
 ) -> [Bag; 4]
-    requires { ⌜ Pooled (now left) (now right) (slotsOf bags) ⌝ }
-    requires { ⌜ length (now left) ≤ length (now number) ⌝ }
+    requires { ⌜ Pooled (now left) (now right) bags ⌝ }
+    requires { ⌜ length (now left) ≤ length (now values) ⌝ }
     requires { ⌜ i < 4 ⌝ }
-    ensures { λ r. ⌜ Pooled (now (left .exit)) (now (right .exit)) (slotsOf r) ⌝ }
+    ensures { λ r. ⌜ Pooled (now (left .exit)) (now (right .exit)) r ⌝ }
 {
     let mut filled = bags;
     let mut k: u16 = 0;
     while k < count {
         let value = std::num::wrapping_add_u16(first, k);
-        let after = put(filled, i, value, left, right, number);
+        let after = put(filled, i, value, left, right, values);
         filled = after;
         k += 1;
     }
@@ -145,15 +145,15 @@ pub fn two_filled(
     second: u16,
     left: &mut [u16],
     right: &mut [u16],
-    number: &mut [u16],
+    values: &mut [u16],
 ) -> [Bag; 4]
-    requires { ⌜ Room nodes (now left) (now right) (now number) ⌝ }
-    ensures { λ r. ⌜ Pooled (now (left .exit)) (now (right .exit)) (slotsOf r) ⌝ }
+    requires { ⌜ Room nodes (now left) (now right) (now values) ⌝ }
+    ensures { λ r. ⌜ Pooled (now (left .exit)) (now (right .exit)) r ⌝ }
 {
     let none = start(left, right, nodes);
-    let one = fill(none, 0, from, first, left, right, number);
+    let one = fill(none, 0, from, first, left, right, values);
     let next = std::num::wrapping_add_u16(from, first);
-    fill(one, 1, next, second, left, right, number)
+    fill(one, 1, next, second, left, right, values)
 }
 
 // Takes `count` numbers from bag i, and counts each.
@@ -163,18 +163,18 @@ pub fn drain(
     count: u16,
     left: &mut [u16],
     right: &[u16],
-    number: &[u16],
+    values: &[u16],
     counts: &mut [u16],
 ) -> [Bag; 4]
-    requires { ⌜ Pooled (now left) (now right) (slotsOf bags) ⌝ }
-    requires { ⌜ length (now left) ≤ length (now number) ⌝ }
+    requires { ⌜ Pooled (now left) (now right) bags ⌝ }
+    requires { ⌜ length (now left) ≤ length (now values) ⌝ }
     requires { ⌜ i < 4 ⌝ }
-    ensures { λ r. ⌜ Pooled (now (left .exit)) (now (right .entry)) (slotsOf r) ⌝ }
+    ensures { λ r. ⌜ Pooled (now (left .exit)) (now (right .entry)) r ⌝ }
 {
     let mut rest = bags;
     let mut k: u16 = 0;
     while k < count {
-        let drawn = draw(rest, i, left, right, number);
+        let drawn = draw(rest, i, left, right, values);
         rest = drawn.bags;
         raise(counts, drawn.value as usize);
         k += 1;

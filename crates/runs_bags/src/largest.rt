@@ -1,7 +1,7 @@
 // The largest bag, of 32,768 numbers, in lists of 32,769 places: filled, emptied; and made of two of
 // half its size, which it is split into again.
 ghost use Rattle.bag.specs.Promises.{Pooled};
-ghost use Rattle.bagkit.specs.Family.{Room, slotsOf};
+ghost use Rattle.bagkit.specs.Family.{Room};
 use bag::Bag;
 use bagkit::contents::are_parts;
 use bagkit::counts::add_nodes;
@@ -23,7 +23,7 @@ fn holds_all(
     second: usize,
     left: &[u16],
     right: &[u16],
-    number: &[u16],
+    values: &[u16],
 ) -> bool {
     let mut nodes = [0u16; 32768];
     let mut found = [0u16; 32769];
@@ -36,7 +36,7 @@ fn holds_all(
             second,
             left,
             right,
-            number,
+            values,
             &mut nodes,
             &mut found,
         )
@@ -52,44 +52,44 @@ fn is_free(left: &[u16]) -> bool {
 }
 
 // A new pool with all numbers in bag 0.
-fn full_bag(left: &mut [u16], right: &mut [u16], number: &mut [u16]) -> [Bag; 4]
-    requires { ⌜ Room 32768 (now left) (now right) (now number) ⌝ }
-    ensures { λ r. ⌜ Pooled (now (left .exit)) (now (right .exit)) (slotsOf r) ⌝ }
+fn full_bag(left: &mut [u16], right: &mut [u16], values: &mut [u16]) -> [Bag; 4]
+    requires { ⌜ Room 32768 (now left) (now right) (now values) ⌝ }
+    ensures { λ r. ⌜ Pooled (now (left .exit)) (now (right .exit)) r ⌝ }
 {
     let none = family::start(left, right, 32768);
-    family::fill(none, 0, 0, MOST, left, right, number)
+    family::fill(none, 0, 0, MOST, left, right, values)
 }
 
 // All into one bag, which leaves no node free, and out again.
-fn one_bag(left: &mut [u16], right: &mut [u16], number: &mut [u16]) -> Tally
-    requires { ⌜ Room 32768 (now left) (now right) (now number) ⌝ }
+fn one_bag(left: &mut [u16], right: &mut [u16], values: &mut [u16]) -> Tally
+    requires { ⌜ Room 32768 (now left) (now right) (now values) ⌝ }
 {
     let mut found = [0u16; 32769];
-    let full = full_bag(left, right, number);
-    let held = (at(left, 0) == 0) & holds_all(full, 32768, 0, left, right, number);
-    let rest = family::drain(full, 0, MOST, left, right, number, &mut found);
+    let full = full_bag(left, right, values);
+    let held = (at(left, 0) == 0) & holds_all(full, 32768, 0, left, right, values);
+    let rest = family::drain(full, 0, MOST, left, right, values, &mut found);
     let out = bag::is_empty(rest[0]) & are_ones(&found, 0, MOST as usize);
     Tally::new().with(held).with(out).with(is_free(left))
 }
 
 // Two halves, united and split again.
-fn two_bags(left: &mut [u16], right: &mut [u16], number: &mut [u16]) -> Tally
-    requires { ⌜ Room 32768 (now left) (now right) (now number) ⌝ }
+fn two_bags(left: &mut [u16], right: &mut [u16], values: &mut [u16]) -> Tally
+    requires { ⌜ Room 32768 (now left) (now right) (now values) ⌝ }
 {
-    let two = family::two_filled(32768, 0, HALF, HALF, left, right, number);
-    let before = holds_all(two, 16384, 16384, left, right, number);
+    let two = family::two_filled(32768, 0, HALF, HALF, left, right, values);
+    let before = holds_all(two, 16384, 16384, left, right, values);
     let whole = family::unite(two, 0, 1, left, right);
-    let united = holds_all(whole, 32768, 0, left, right, number);
+    let united = holds_all(whole, 32768, 0, left, right, values);
     let halves = family::divide(whole, 0, 1, left, right);
-    let split = holds_all(halves, 16384, 16384, left, right, number);
+    let split = holds_all(halves, 16384, 16384, left, right, values);
     Tally::new().with(before).with(united).with(split)
 }
 
 pub fn run() {
     let mut left = [0u16; 32769];
     let mut right = [0u16; 32769];
-    let mut number = [0u16; 32769];
-    let one = one_bag(&mut left, &mut right, &mut number);
-    let two = two_bags(&mut left, &mut right, &mut number);
+    let mut values = [0u16; 32769];
+    let one = one_bag(&mut left, &mut right, &mut values);
+    let two = two_bags(&mut left, &mut right, &mut values);
     one.and(two).print(b"largest bag");
 }

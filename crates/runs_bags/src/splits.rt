@@ -7,11 +7,11 @@ use bagkit::family;
 use testkit::tally::Tally;
 
 // A new pool, the numbers below `count` in bag 0, and split into bags 0 and 1.
-fn halves(count: u16, left: &mut [u16], right: &mut [u16], number: &mut [u16]) -> [Bag; 4]
-    requires { ⌜ Room 64 (now left) (now right) (now number) ⌝ }
+fn halves(count: u16, left: &mut [u16], right: &mut [u16], values: &mut [u16]) -> [Bag; 4]
+    requires { ⌜ Room 64 (now left) (now right) (now values) ⌝ }
 {
     let none = family::start(left, right, 64);
-    let whole = family::fill(none, 0, 0, count, left, right, number);
+    let whole = family::fill(none, 0, 0, count, left, right, values);
     family::divide(whole, 0, 1, left, right)
 }
 
@@ -19,10 +19,10 @@ fn halves(count: u16, left: &mut [u16], right: &mut [u16], number: &mut [u16]) -
 fn gives(count: u16, first: usize, second: usize) -> bool {
     let mut left = [0u16; 65];
     let mut right = [0u16; 65];
-    let mut number = [0u16; 65];
+    let mut values = [0u16; 65];
     let mut nodes = [0u16; 65];
     let mut found = [0u16; 65];
-    let bags = halves(count, &mut left, &mut right, &mut number);
+    let bags = halves(count, &mut left, &mut right, &mut values);
     are_parts(
         bags,
         count as usize,
@@ -30,7 +30,7 @@ fn gives(count: u16, first: usize, second: usize) -> bool {
         second,
         &left,
         &right,
-        &number,
+        &values,
         &mut nodes,
         &mut found,
     )

@@ -5,7 +5,7 @@ ghost use Prim.Native.Nat.{_<_, _≤_};
 ghost use mathlib.Core.Path.{_≡_};
 ghost use lib.ListN.{length};
 ghost use Rattle.bag.specs.Promises.{Pooled};
-ghost use Rattle.bagkit.specs.Family.{Room, slotsOf};
+ghost use Rattle.bagkit.specs.Family.{Room};
 use bag::Bag;
 use bagkit::contents::add_bag;
 use bagkit::counts::add_nodes;
@@ -25,19 +25,19 @@ use testkit::tally::Tally;
 use testkit::words::agree;
 use testkit::words::at;
 
-const NODES: usize = 300;
+const POOL_NODES: usize = 300;
 
-const VALUES: usize = 50;
+const ROW_PLACES: usize = 50;
 
-const ROUNDS: u16 = 6000;
+const ROUND_COUNT: u16 = 6000;
 
-const INSERT: u16 = 0;
+const KIND_INSERT: u16 = 0;
 
-const TAKE: u16 = 1;
+const KIND_TAKE: u16 = 1;
 
-const UNITE: u16 = 2;
+const KIND_UNITE: u16 = 2;
 
-const SPLIT: u16 = 3;
+const KIND_SPLIT: u16 = 3;
 
 // The bags after an operation, and whether it did what it must.
 pub struct Outcome {
@@ -55,12 +55,12 @@ pub struct Choice {
 
 // Where the row of a bag starts.
 fn base(i: usize) -> usize {
-    i % 4 * VALUES
+    i % 4 * ROW_PLACES
 }
 
 // How many numbers a bag has by the counts.
 fn held(counts: &[u16], i: usize) -> usize {
-    total(counts, base(i), VALUES)
+    total(counts, base(i), ROW_PLACES)
 }
 
 // Whether the tests of a bag say what the counts say.
@@ -74,8 +74,8 @@ fn is_tested(bag: Bag, count: usize) -> bool {
 fn are_tested(bags: [Bag; 4], left: &[u16], counts: &[u16]) -> bool {
     let first = is_tested(bags[0], held(counts, 0)) & is_tested(bags[1], held(counts, 1));
     let second = is_tested(bags[2], held(counts, 2)) & is_tested(bags[3], held(counts, 3));
-    let all = total(counts, 0, 4 * VALUES);
-    first & second & ((at(left, 0) == 0) == (all == NODES))
+    let all = total(counts, 0, 4 * ROW_PLACES);
+    first & second & ((at(left, 0) == 0) == (all == POOL_NODES))
 }
 
 // Whether a walk over all bags finds the numbers that are counted, and bags and free chain together
@@ -84,7 +84,7 @@ fn are_counted(
     bags: [Bag; 4],
     left: &[u16],
     right: &[u16],
-    number: &[u16],
+    values: &[u16],
     counts: &[u16],
 ) -> bool {
     let mut nodes = [0u16; 320];
@@ -94,15 +94,15 @@ fn are_counted(
     let mut i = 0;
     while i < 4 {
         let bag = bags[i];
-        let count = add_bag(bag, base(i), left, right, number, &mut nodes, &mut found);
+        let count = add_bag(bag, base(i), left, right, values, &mut nodes, &mut found);
         add_nodes(&mut met, &nodes, count);
         all = std::num::wrapping_add_usize(all, count);
         i += 1;
     }
     let free = free_nodes(left, &mut nodes);
     add_nodes(&mut met, &nodes, free);
-    let whole = std::num::wrapping_add_usize(all, free) == NODES;
-    whole & are_ones(&met, 1, NODES) & agree(&found, counts, 200)
+    let whole = std::num::wrapping_add_usize(all, free) == POOL_NODES;
+    whole & are_ones(&met, 1, POOL_NODES) & agree(&found, counts, 200)
 }
 
 // Inserts the number into bag i, unless the pool is full.
@@ -112,13 +112,13 @@ fn insert(
     value: u16,
     left: &mut [u16],
     right: &mut [u16],
-    number: &mut [u16],
+    values: &mut [u16],
     counts: &mut [u16],
 ) -> Outcome
-    requires { ⌜ Pooled (now left) (now right) (slotsOf bags) ⌝ }
-    requires { ⌜ length (now left) ≤ length (now number) ⌝ }
+    requires { ⌜ Pooled (now left) (now right) bags ⌝ }
+    requires { ⌜ length (now left) ≤ length (now values) ⌝ }
     requires { ⌜ i < 4 ⌝ }
-    ensures { λ r. ⌜ Pooled (now (left .exit)) (now (right .exit)) (slotsOf (r .bags)) ⌝ }
+    ensures { λ r. ⌜ Pooled (now (left .exit)) (now (right .exit)) (r .bags) ⌝ }
 {
     if at(left, 0) == 0 {
         return Outcome { bags, right: true };
@@ -127,7 +127,7 @@ fn insert(
         counts,
         std::num::wrapping_add_usize(base(i), value as usize),
     );
-    let after = family::put(bags, i, value, left, right, number);
+    let after = family::put(bags, i, value, left, right, values);
     Outcome {
         bags: after,
         right: true,
@@ -140,19 +140,19 @@ fn take(
     i: usize,
     left: &mut [u16],
     right: &[u16],
-    number: &[u16],
+    values: &[u16],
     counts: &mut [u16],
 ) -> Outcome
-    requires { ⌜ Pooled (now left) (now right) (slotsOf bags) ⌝ }
-    requires { ⌜ length (now left) ≤ length (now number) ⌝ }
+    requires { ⌜ Pooled (now left) (now right) bags ⌝ }
+    requires { ⌜ length (now left) ≤ length (now values) ⌝ }
     requires { ⌜ i < 4 ⌝ }
-    ensures { λ r. ⌜ Pooled (now (left .exit)) (now (right .entry)) (slotsOf (r .bags)) ⌝ }
+    ensures { λ r. ⌜ Pooled (now (left .exit)) (now (right .entry)) (r .bags) ⌝ }
 {
     let old = bags[i];
     if bag::is_empty(old) {
         return Outcome { bags, right: true };
     }
-    let drawn = family::draw(bags, i, left, right, number);
+    let drawn = family::draw(bags, i, left, right, values);
     let after = drawn.bags;
     let value = drawn.value as usize;
     Outcome {
@@ -170,13 +170,13 @@ fn unite(
     right: &mut [u16],
     counts: &mut [u16],
 ) -> Outcome
-    requires { ⌜ Pooled (now left) (now right) (slotsOf bags) ⌝ }
+    requires { ⌜ Pooled (now left) (now right) bags ⌝ }
     requires { ⌜ i < 4 ⌝ }
     requires { ⌜ j < 4 ⌝ }
     requires { ⌜ (i ≡ j → ⊥) ⌝ }
-    ensures { λ r. ⌜ Pooled (now (left .exit)) (now (right .exit)) (slotsOf (r .bags)) ⌝ }
+    ensures { λ r. ⌜ Pooled (now (left .exit)) (now (right .exit)) (r .bags) ⌝ }
 {
-    pour(counts, base(j), base(i), VALUES);
+    pour(counts, base(j), base(i), ROW_PLACES);
     let after = family::unite(bags, i, j, left, right);
     Outcome {
         bags: after,
@@ -213,18 +213,18 @@ fn is_split(
     j: usize,
     left: &[u16],
     right: &[u16],
-    number: &[u16],
+    values: &[u16],
     counts: &mut [u16],
 ) -> bool {
     let mut nodes = [0u16; 320];
     let mut found = [0u16; 200];
-    let a = add_bag(first, base(i), left, right, number, &mut nodes, &mut found);
-    let b = add_bag(second, base(j), left, right, number, &mut nodes, &mut found);
+    let a = add_bag(first, base(i), left, right, values, &mut nodes, &mut found);
+    let b = add_bag(second, base(j), left, right, values, &mut nodes, &mut found);
     let whole = held(counts, i);
     let sizes = (a == whole - whole / 2) & (b == whole / 2);
-    let same = is_sum(counts, base(i), &found, base(i), base(j), VALUES);
-    copy_row(counts, &found, base(i), VALUES);
-    copy_row(counts, &found, base(j), VALUES);
+    let same = is_sum(counts, base(i), &found, base(i), base(j), ROW_PLACES);
+    copy_row(counts, &found, base(i), ROW_PLACES);
+    copy_row(counts, &found, base(j), ROW_PLACES);
     sizes & same
 }
 
@@ -234,12 +234,12 @@ fn split(
     i: usize,
     left: &mut [u16],
     right: &mut [u16],
-    number: &[u16],
+    values: &[u16],
     counts: &mut [u16],
 ) -> Outcome
-    requires { ⌜ Pooled (now left) (now right) (slotsOf bags) ⌝ }
+    requires { ⌜ Pooled (now left) (now right) bags ⌝ }
     requires { ⌜ i < 4 ⌝ }
-    ensures { λ r. ⌜ Pooled (now (left .exit)) (now (right .exit)) (slotsOf (r .bags)) ⌝ }
+    ensures { λ r. ⌜ Pooled (now (left .exit)) (now (right .exit)) (r .bags) ⌝ }
 {
     let j = empty_bag(counts, i);
     if i == j {
@@ -254,7 +254,7 @@ fn split(
     let second = after[j];
     Outcome {
         bags: after,
-        right: is_split(first, second, i, j, left, right, number, counts),
+        right: is_split(first, second, i, j, left, right, values, counts),
     }
 }
 
@@ -262,15 +262,15 @@ fn split(
 fn drawn_kind(round: u16, seed: u64) -> u16 {
     let drawn = below(seed, 16);
     if drawn < 2 {
-        return UNITE;
+        return KIND_UNITE;
     }
     if drawn < 4 {
-        return SPLIT;
+        return KIND_SPLIT;
     }
     if (drawn < 13) == (round / 1000 % 2 == 0) {
-        INSERT
+        KIND_INSERT
     } else {
-        TAKE
+        KIND_TAKE
     }
 }
 
@@ -286,7 +286,7 @@ fn drawn_choice(round: u16, seed: u64) -> Choice
         kind: drawn_kind(round, leap(seed)),
         i,
         j: (i + 1 + further) % 4,
-        value: below(next(next(seed)), VALUES as u16),
+        value: below(next(next(seed)), ROW_PLACES as u16),
     }
 }
 
@@ -296,26 +296,26 @@ fn operate(
     choice: Choice,
     left: &mut [u16],
     right: &mut [u16],
-    number: &mut [u16],
+    values: &mut [u16],
     counts: &mut [u16],
 ) -> Outcome
-    requires { ⌜ Pooled (now left) (now right) (slotsOf bags) ⌝ }
-    requires { ⌜ length (now left) ≤ length (now number) ⌝ }
+    requires { ⌜ Pooled (now left) (now right) bags ⌝ }
+    requires { ⌜ length (now left) ≤ length (now values) ⌝ }
     requires { ⌜ choice .i < 4 ⌝ }
     requires { ⌜ choice .j < 4 ⌝ }
     requires { ⌜ (choice .i ≡ choice .j → ⊥) ⌝ }
-    ensures { λ r. ⌜ Pooled (now (left .exit)) (now (right .exit)) (slotsOf (r .bags)) ⌝ }
+    ensures { λ r. ⌜ Pooled (now (left .exit)) (now (right .exit)) (r .bags) ⌝ }
 {
-    if choice.kind == INSERT {
-        return insert(bags, choice.i, choice.value, left, right, number, counts);
+    if choice.kind == KIND_INSERT {
+        return insert(bags, choice.i, choice.value, left, right, values, counts);
     }
-    if choice.kind == TAKE {
-        return take(bags, choice.i, left, right, number, counts);
+    if choice.kind == KIND_TAKE {
+        return take(bags, choice.i, left, right, values, counts);
     }
-    if choice.kind == UNITE {
+    if choice.kind == KIND_UNITE {
         return unite(bags, choice.i, choice.j, left, right, counts);
     }
-    split(bags, choice.i, left, right, number, counts)
+    split(bags, choice.i, left, right, values, counts)
 }
 
 // Whether bags and counts agree: by the tests, and in full after a union or a split and every 16th
@@ -326,16 +326,16 @@ fn is_right(
     round: u16,
     left: &[u16],
     right: &[u16],
-    number: &[u16],
+    values: &[u16],
     counts: &[u16],
 ) -> bool {
     let tested = are_tested(bags, left, counts);
-    if (kind == INSERT) | (kind == TAKE) {
+    if (kind == KIND_INSERT) | (kind == KIND_TAKE) {
         if round % 16 != 0 {
             return tested;
         }
     }
-    tested & are_counted(bags, left, right, number, counts)
+    tested & are_counted(bags, left, right, values, counts)
 }
 
 // A round: an operation is drawn, done and compared.
@@ -345,17 +345,17 @@ fn play(
     seed: u64,
     left: &mut [u16],
     right: &mut [u16],
-    number: &mut [u16],
+    values: &mut [u16],
     counts: &mut [u16],
 ) -> Outcome
-    requires { ⌜ Pooled (now left) (now right) (slotsOf bags) ⌝ }
-    requires { ⌜ length (now left) ≤ length (now number) ⌝ }
-    ensures { λ r. ⌜ Pooled (now (left .exit)) (now (right .exit)) (slotsOf (r .bags)) ⌝ }
+    requires { ⌜ Pooled (now left) (now right) bags ⌝ }
+    requires { ⌜ length (now left) ≤ length (now values) ⌝ }
+    ensures { λ r. ⌜ Pooled (now (left .exit)) (now (right .exit)) (r .bags) ⌝ }
 {
     let choice = drawn_choice(round, seed);
-    let done = operate(bags, choice, left, right, number, counts);
+    let done = operate(bags, choice, left, right, values, counts);
     let after = done.bags;
-    let same = is_right(after, choice.kind, round, left, right, number, counts);
+    let same = is_right(after, choice.kind, round, left, right, values, counts);
     Outcome {
         bags: after,
         right: done.right & same,
@@ -363,16 +363,16 @@ fn play(
 }
 
 // All rounds, one after the other. The counts are 0 before.
-fn rounds(left: &mut [u16], right: &mut [u16], number: &mut [u16], counts: &mut [u16]) -> Tally
-    requires { ⌜ Room 300 (now left) (now right) (now number) ⌝ }
+fn rounds(left: &mut [u16], right: &mut [u16], values: &mut [u16], counts: &mut [u16]) -> Tally
+    requires { ⌜ Room 300 (now left) (now right) (now values) ⌝ }
 {
-    let mut bags = family::start(left, right, NODES);
+    let mut bags = family::start(left, right, POOL_NODES);
     let mut tally = Tally::new();
     let mut seed: u64 = 21;
     let mut round: u16 = 0;
-    while round < ROUNDS {
+    while round < ROUND_COUNT {
         seed = leap(seed);
-        let done = play(bags, round, seed, left, right, number, counts);
+        let done = play(bags, round, seed, left, right, values, counts);
         bags = done.bags;
         tally = tally.with(done.right);
         round += 1;
@@ -383,7 +383,7 @@ fn rounds(left: &mut [u16], right: &mut [u16], number: &mut [u16], counts: &mut 
 pub fn run() {
     let mut left = [0u16; 301];
     let mut right = [0u16; 301];
-    let mut number = [0u16; 301];
+    let mut values = [0u16; 301];
     let mut counts = [0u16; 200];
-    rounds(&mut left, &mut right, &mut number, &mut counts).print(b"random operations");
+    rounds(&mut left, &mut right, &mut values, &mut counts).print(b"random operations");
 }

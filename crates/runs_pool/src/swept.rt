@@ -11,7 +11,7 @@ const LEFT_TAG: u16 = 300;
 
 const RIGHT_TAG: u16 = 4000;
 
-const NUMBER_TAG: u16 = 50;
+const VALUES_TAG: u16 = 50;
 
 // Whether the first places are 0 and the others are as they were.
 fn is_swept(list: &[u16], places: usize, tag: u16) -> bool {
@@ -21,17 +21,17 @@ fn is_swept(list: &[u16], places: usize, tag: u16) -> bool {
 fn sweeps(places: usize) -> bool {
     let mut left = [0u16; 40];
     let mut right = [0u16; 45];
-    let mut number = [0u16; 42];
+    let mut values = [0u16; 42];
     stamp(&mut left, LEFT_TAG);
     stamp(&mut right, RIGHT_TAG);
-    stamp(&mut number, NUMBER_TAG);
+    stamp(&mut values, VALUES_TAG);
     if 40 < places {
         return false;
     }
-    bag::sweep(&mut left, &mut right, &mut number, places);
+    bag::sweep(&mut left, &mut right, &mut values, places);
     is_swept(&left, places, LEFT_TAG)
         & is_swept(&right, places, RIGHT_TAG)
-        & is_swept(&number, places, NUMBER_TAG)
+        & is_swept(&values, places, VALUES_TAG)
 }
 
 // Whether each of the first places leads to the next node, and the last to none.

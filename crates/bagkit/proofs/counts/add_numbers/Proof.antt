@@ -7,10 +7,10 @@ use Rattle.bagkit.proofs.counts.add_numbers.Statement.{statement}
 use Rattle.bagkit.proofs.counts.add_numbers.Tie as tie
 
 abbrev Inv-loop : tie.InvT-loop
-Inv-loop counts₀ base nodes count number i₀ counts i = length counts ≡ length counts₀
+Inv-loop counts₀ base nodes count values i₀ counts i = length counts ≡ length counts₀
 
 abbrev μ-loop : tie.MeasureT-loop
-μ-loop counts₀ base nodes count number i₀ counts i = count - i
+μ-loop counts₀ base nodes count values i₀ counts i = count - i
 
 loop-holds : tie.Need-loop-holds Inv-loop μ-loop
 loop-holds c = search needs

@@ -1,14 +1,14 @@
--- `bagkit::counts::is_sum` is safe and ends. The loop goes over the values; the measure is what is left of them.
+-- `bagkit::counts::is_sum` is safe and ends. The loop goes over the places of a row; the measure is what is left of them.
 use Prim.Native.Nat.{_-_}
 use borrow.Author.Needs.{needs}
 use Rattle.bagkit.proofs.counts.is_sum.Statement.{statement}
 use Rattle.bagkit.proofs.counts.is_sum.Tie as tie
 
 abbrev Inv-loop : tie.InvT-loop
-Inv-loop counts base parts first second values value₀ value = Unit {0}
+Inv-loop counts base parts first second places value₀ value = Unit {0}
 
 abbrev μ-loop : tie.MeasureT-loop
-μ-loop counts base parts first second values value₀ value = values - value
+μ-loop counts base parts first second places value₀ value = places - value
 
 loop-holds : tie.Need-loop-holds Inv-loop μ-loop
 loop-holds c = search needs

@@ -1,4 +1,4 @@
--- `bagkit::counts::pour` is safe and ends. The loop goes over the values; the measure is what is left of them.
+-- `bagkit::counts::pour` is safe and ends. The loop goes over the places of a row; the measure is what is left of them.
 use Prim.Native.Nat.{_-_}
 use mathlib.Core.Path.{_≡_}
 use lib.ListN.{length}
@@ -7,10 +7,10 @@ use Rattle.bagkit.proofs.counts.pour.Statement.{statement}
 use Rattle.bagkit.proofs.counts.pour.Tie as tie
 
 abbrev Inv-loop : tie.InvT-loop
-Inv-loop counts₀ from to values value₀ counts value = length counts ≡ length counts₀
+Inv-loop counts₀ from to places value₀ counts value = length counts ≡ length counts₀
 
 abbrev μ-loop : tie.MeasureT-loop
-μ-loop counts₀ from to values value₀ counts value = values - value
+μ-loop counts₀ from to places value₀ counts value = places - value
 
 loop-holds : tie.Need-loop-holds Inv-loop μ-loop
 loop-holds c = search needs

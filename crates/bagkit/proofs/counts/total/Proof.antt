@@ -1,14 +1,14 @@
--- `bagkit::counts::total` is safe and ends. The loop goes over the values; the measure is what is left of them.
+-- `bagkit::counts::total` is safe and ends. The loop goes over the places of a row; the measure is what is left of them.
 use Prim.Native.Nat.{_-_}
 use borrow.Author.Needs.{needs}
 use Rattle.bagkit.proofs.counts.total.Statement.{statement}
 use Rattle.bagkit.proofs.counts.total.Tie as tie
 
 abbrev Inv-loop : tie.InvT-loop
-Inv-loop counts base values sum₀ value₀ sum value = Unit {0}
+Inv-loop counts base places sum₀ value₀ sum value = Unit {0}
 
 abbrev μ-loop : tie.MeasureT-loop
-μ-loop counts base values sum₀ value₀ sum value = values - value
+μ-loop counts base places sum₀ value₀ sum value = places - value
 
 loop-holds : tie.Need-loop-holds Inv-loop μ-loop
 loop-holds c = search needs

@@ -1,9 +1,10 @@
 -- `bagkit::family::divide` meets its contract: a split into the place of an empty bag of the family leaves the pool well-formed.
 use native.Mathlib.Omega.{arith}
 use mathlib.Core.Path.{sym, _∙_}
+use mathlib.Core.List.{[]}
 use lib.ListN.{getD}
-use Rattle.bag.proofs.Family.{split-two}
-use Rattle.bagkit.proofs.FamilyFacts.{past, one-pool, two-after}
+use Rattle.bag.specs.Nodes.{pastBag}
+use Rattle.bag.proofs.Family.{pool-one, family-two, split-two}
 use borrow.Author.Needs.{needs}
 use Rattle.bagkit.proofs.family.divide.Statement.{statement}
 use Rattle.bagkit.proofs.family.divide.Tie as tie
@@ -26,7 +27,7 @@ is-empty-requires c κs = search needs
 split-requires : tie.Need-split-requires
 split-requires c κs =
     let start = c .before .before .before .before .before .before .before .before in
-    one-pool (start .args .t1) (start .args .i) (start .pre .0) (omega arith)
+    pool-one (start .args .t1) (start .args .i) (start .pre .0) (omega arith)
 
 mul-after : tie.Need-mul-after
 mul-after c = search needs
@@ -50,10 +51,12 @@ returns : tie.Need-returns
 returns c =
     let start = c .before .before .before .before .before .before .before .before .before .before .before .before .before .before .before in
     let bags = start .args .t1 in
-    two-after bags (start .args .i) (start .args .j) (start .pre .0) (omega arith) (omega arith) (start .pre .1 .1 .1)
-    (c .before .before .before .before .before .before .split .result .first) (c .before .before .before .before .before .before .split .result .second)
-    (split-two (getD bags (start .args .j) past .slots)
-    (sym (c .before .before .before .before .before .before .before .before .before .before .is-empty .ensures (start .args .left .now) (start .args .right .now)) ∙ c .before .before .before .before .before .before .before .before .before .if1 .taken) (c .before .before .before .before .before .before .split .ensures .moved))
+    let tested = c .before .before .before .before .before .before .before .before .before .before .is-empty in
+    let halves = c .before .before .before .before .before .before .split in
+    let none = sym (tested .ensures (start .args .left .now) (start .args .right .now) [] (pool-one bags (start .args .j) (start .pre .0) (omega arith)))
+    ∙ c .before .before .before .before .before .before .before .before .before .if1 .taken in
+    family-two _ _ _ _ bags (start .args .i) (start .args .j) (halves .result .first) (halves .result .second) (start .pre .0) (omega arith) (omega arith)
+    (start .pre .1 .1 .1) (split-two [] (getD bags (start .args .j) pastBag) none (halves .ensures .moved)) .pool
 
 returns-2 : tie.Need-returns-2
 returns-2 c = search needs

@@ -4,16 +4,15 @@ use Prim.Native.Nat.{_-_}
 use mathlib.Core.Path.{_≡_}
 use lib.ListN.{length}
 use Rattle.bag.specs.Promises.{Pooled}
-use Rattle.bagkit.specs.Family.{slotsOf}
 use borrow.Author.Needs.{needs}
 use Rattle.bagkit.proofs.family.drain.Statement.{statement}
 use Rattle.bagkit.proofs.family.drain.Tie as tie
 
 abbrev Inv-loop : tie.InvT-loop
-Inv-loop i count left₀ right number counts₀ rest₀ k₀ left counts rest k = Pooled left right (slotsOf rest) × (length left ≡ length left₀) × (length counts ≡ length counts₀)
+Inv-loop i count left₀ right values counts₀ rest₀ k₀ left counts rest k = Pooled left right rest × (length left ≡ length left₀) × (length counts ≡ length counts₀)
 
 abbrev μ-loop : tie.MeasureT-loop
-μ-loop i count left₀ right number counts₀ rest₀ k₀ left counts rest k = count - k
+μ-loop i count left₀ right values counts₀ rest₀ k₀ left counts rest k = count - k
 
 loop-holds : tie.Need-loop-holds Inv-loop μ-loop
 loop-holds c = search needs

@@ -4,16 +4,15 @@ use Prim.Native.Nat.{_-_}
 use mathlib.Core.Path.{_≡_, _∙_}
 use lib.ListN.{length}
 use Rattle.bag.specs.Promises.{Pooled}
-use Rattle.bagkit.specs.Family.{slotsOf}
 use borrow.Author.Needs.{needs}
 use Rattle.bagkit.proofs.family.fill.Statement.{statement}
 use Rattle.bagkit.proofs.family.fill.Tie as tie
 
 abbrev Inv-loop : tie.InvT-loop
-Inv-loop i first count left₀ right₀ number₀ filled₀ k₀ left right number filled k = Pooled left right (slotsOf filled) × (length left ≡ length left₀) × (length right ≡ length right₀) × (length number ≡ length number₀)
+Inv-loop i first count left₀ right₀ values₀ filled₀ k₀ left right values filled k = Pooled left right filled × (length left ≡ length left₀) × (length right ≡ length right₀) × (length values ≡ length values₀)
 
 abbrev μ-loop : tie.MeasureT-loop
-μ-loop i first count left₀ right₀ number₀ filled₀ k₀ left right number filled k = count - k
+μ-loop i first count left₀ right₀ values₀ filled₀ k₀ left right values filled k = count - k
 
 loop-holds : tie.Need-loop-holds Inv-loop μ-loop
 loop-holds c = search needs

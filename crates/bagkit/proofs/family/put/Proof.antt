@@ -1,7 +1,7 @@
 -- `bagkit::family::put` meets its contract: inserting into one bag of the family leaves the pool well-formed.
 use borrow.Author.Needs.{needs}
 use native.Mathlib.Omega.{arith}
-use Rattle.bagkit.proofs.FamilyFacts.{one-pool, one-after}
+use Rattle.bag.proofs.Family.{pool-one, family-one}
 use Rattle.bagkit.proofs.family.put.Statement.{statement}
 use Rattle.bagkit.proofs.family.put.Tie as tie
 
@@ -23,7 +23,7 @@ array-copy-out-old c = search needs
 insert-requires : tie.Need-insert-requires
 insert-requires c κs =
     let start = c .before .before .before .before .before .before .before .before .before .before in (
-      one-pool (start .args .t1) (start .args .i) (start .pre .0) (omega arith),
+      pool-one (start .args .t1) (start .args .i) (start .pre .0) (omega arith),
       (start .pre .1 .0, c .before .before .before .before .if2 .left),
     )
 
@@ -45,7 +45,8 @@ same-length-3 c = search needs
 returns-3 : tie.Need-returns-3
 returns-3 c =
     let start = c .before .before .before .before .before .before .before .before .before .before .before .before .before .before .before .before .before in
-    one-after (start .args .t1) (start .args .i) (start .pre .0) (omega arith) (c .before .before .before .before .before .before .insert .result) (c .before .before .before .before .before .before .insert .ensures .moved)
+    let inserted = c .before .before .before .before .before .before .insert in
+    family-one _ _ _ _ (start .args .t1) (start .args .i) (inserted .result) (start .pre .0) (omega arith) (inserted .ensures .moved) .pool
 
 pub put-spec : {M : Type 1} → statement M
 put-spec =

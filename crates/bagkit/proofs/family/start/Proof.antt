@@ -1,8 +1,24 @@
 -- `bagkit::family::start` meets its contract: the chained nodes are free, and four empty bags hold none.
-use Rattle.bagkit.proofs.FamilyFacts.{start-pool}
+use Prim.Native.Nat.{ℕ, _≤_, _<_}
+use native.Mathlib.Omega.{arith}
+use mathlib.Core.Path.{_≡_}
+use mathlib.Core.List.{List, [], _∷_, _++_}
+use lib.ListN.{length}
+use Rattle.lists.specs.Lists.{overlay, numbersFrom}
+use Rattle.bag.specs.declared.Bag.{Bag}
+use Rattle.bag.specs.Nodes.{newBag}
+use Rattle.bag.specs.Promises.{Pooled}
+use Rattle.bag.proofs.Free.{free-chained, pool-free}
 use borrow.Author.Needs.{needs}
 use Rattle.bagkit.proofs.family.start.Statement.{statement}
 use Rattle.bagkit.proofs.family.start.Tie as tie
+
+-- a new pool with four empty bags
+start-pool : (left : List ℕ) {left′ right : List ℕ} {b : Bag} (nodes : ℕ) → left′ ≡ overlay (numbersFrom 1 nodes ++ 0 ∷ []) left → b ≡ newBag
+    → nodes < length left → length left′ ≡ length left → length left ≤ 65536 → length left ≤ length right
+    → Pooled left′ right (b ∷ b ∷ b ∷ b ∷ [])
+start-pool left {left′} {right} nodes chained none h long few wide =
+    rw none (pool-free left′ right nodes 4 (rw chained (free-chained left nodes h)) (omega arith) (omega arith) (omega arith))
 
 pool-requires : tie.Need-pool-requires
 pool-requires c κs = search needs

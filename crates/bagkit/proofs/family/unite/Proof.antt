@@ -1,6 +1,7 @@
 -- `bagkit::family::unite` meets its contract: uniting two bags of the family leaves the pool well-formed, with an empty bag at j.
 use native.Mathlib.Omega.{arith}
-use Rattle.bagkit.proofs.FamilyFacts.{two-pool, two-after}
+use Rattle.bag.specs.Nodes.{newBag}
+use Rattle.bag.proofs.Family.{pool-two, family-two}
 use borrow.Author.Needs.{needs}
 use Rattle.bagkit.proofs.family.unite.Statement.{statement}
 use Rattle.bagkit.proofs.family.unite.Tie as tie
@@ -20,7 +21,7 @@ array-copy-out-second c = search needs
 union-requires : tie.Need-union-requires
 union-requires c κs =
     let start = c .before .before .before .before .before .before in
-    two-pool (start .args .t1) (start .args .i) (start .args .j) (start .pre .0) (omega arith) (omega arith) (start .pre .1 .1 .1)
+    pool-two (start .args .t1) (start .args .i) (start .args .j) (start .pre .0) (omega arith) (omega arith) (start .pre .1 .1 .1)
 
 mul-after : tie.Need-mul-after
 mul-after c = search needs
@@ -46,8 +47,10 @@ same-length-2 c = search needs
 returns : tie.Need-returns
 returns c =
     let start = c .before .before .before .before .before .before .before .before .before .before .before .before in
-    two-after (start .args .t1) (start .args .i) (start .args .j) (start .pre .0) (omega arith) (omega arith) (start .pre .1 .1 .1)
-    (c .before .before .before .before .before .union .result) (c .empty .result) (rw (c .empty .ensures) (c .before .before .before .before .before .union .ensures .moved))
+    let united = c .before .before .before .before .before .union in
+    rw (c .empty .ensures)
+    (family-two _ _ _ _ (start .args .t1) (start .args .i) (start .args .j) (united .result) newBag (start .pre .0) (omega arith) (omega arith)
+    (start .pre .1 .1 .1) (united .ensures .moved) .pool)
 
 pub unite-spec : {M : Type 1} → statement M
 unite-spec =

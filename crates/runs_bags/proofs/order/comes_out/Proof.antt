@@ -1,6 +1,5 @@
 -- `runs_bags::order::comes_out` is safe and ends. The invariant: the pool is well-formed with the bags, and left keeps its length. The measure is
 -- what is left of the list.
-use Rattle.bagkit.specs.Family.{slotsOf}
 use Rattle.bag.specs.Promises.{Pooled}
 use lib.ListN.{length}
 use mathlib.Core.Path.{_≡_}
@@ -10,10 +9,10 @@ use Rattle.runs_bags.proofs.order.comes_out.Statement.{statement}
 use Rattle.runs_bags.proofs.order.comes_out.Tie as tie
 
 abbrev Inv-loop : tie.InvT-loop
-Inv-loop i order left₀ right number rest₀ same₀ k₀ left rest same k = Pooled left right (slotsOf rest) × (length left ≡ length left₀)
+Inv-loop i order left₀ right values rest₀ same₀ k₀ left rest same k = Pooled left right rest × (length left ≡ length left₀)
 
 abbrev μ-loop : tie.MeasureT-loop
-μ-loop i order left₀ right number rest₀ same₀ k₀ left rest same k = length order - k
+μ-loop i order left₀ right values rest₀ same₀ k₀ left rest same k = length order - k
 
 loop-holds : tie.Need-loop-holds Inv-loop μ-loop
 loop-holds c = search needs

@@ -7,10 +7,10 @@ use Rattle.runs_pool.proofs.random_operations.are_counted.Statement.{st
 use Rattle.runs_pool.proofs.random_operations.are_counted.Tie as tie
 
 abbrev Inv-loop : tie.InvT-loop
-Inv-loop left right number counts bags nodes₀ met₀ found₀ all₀ i₀ nodes met found all i = (length nodes ≡ length nodes₀) × (length met ≡ length met₀) × (length found ≡ length found₀)
+Inv-loop left right values counts bags nodes₀ met₀ found₀ all₀ i₀ nodes met found all i = (length nodes ≡ length nodes₀) × (length met ≡ length met₀) × (length found ≡ length found₀)
 
 abbrev μ-loop : tie.MeasureT-loop
-μ-loop left right number counts bags nodes₀ met₀ found₀ all₀ i₀ nodes met found all i = 4 - i
+μ-loop left right values counts bags nodes₀ met₀ found₀ all₀ i₀ nodes met found all i = 4 - i
 
 loop-holds : tie.Need-loop-holds Inv-loop μ-loop
 loop-holds c = search needs

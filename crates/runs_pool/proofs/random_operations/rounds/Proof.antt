@@ -4,17 +4,16 @@ use Prim.Native.Nat.{_-_}
 use mathlib.Core.Path.{_≡_, _∙_}
 use lib.ListN.{length}
 use Rattle.bag.specs.Promises.{Pooled}
-use Rattle.bagkit.specs.Family.{slotsOf}
 use borrow.Author.Needs.{needs}
 use Rattle.runs_pool.proofs.random_operations.rounds.Statement.{statement}
 use Rattle.runs_pool.proofs.random_operations.rounds.Tie as tie
 
 abbrev Inv-loop : tie.InvT-loop
-Inv-loop left₀ right₀ number₀ counts₀ bags₀ tally₀ seed₀ round₀ left right number counts bags tally seed round =
-    Pooled left right (slotsOf bags) × (length left ≡ length left₀) × (length right ≡ length right₀) × (length number ≡ length number₀) × (length counts ≡ length counts₀)
+Inv-loop left₀ right₀ values₀ counts₀ bags₀ tally₀ seed₀ round₀ left right values counts bags tally seed round =
+    Pooled left right bags × (length left ≡ length left₀) × (length right ≡ length right₀) × (length values ≡ length values₀) × (length counts ≡ length counts₀)
 
 abbrev μ-loop : tie.MeasureT-loop
-μ-loop left₀ right₀ number₀ counts₀ bags₀ tally₀ seed₀ round₀ left right number counts bags tally seed round =
+μ-loop left₀ right₀ values₀ counts₀ bags₀ tally₀ seed₀ round₀ left right values counts bags tally seed round =
     6000 - round
 
 start-requires : tie.Need-start-requires Inv-loop μ-loop

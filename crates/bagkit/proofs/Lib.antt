@@ -1,2 +1,0 @@
--- The facts that the proofs of the four bags' operations share.
-pub mod FamilyFacts
