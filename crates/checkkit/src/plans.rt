@@ -18,7 +18,7 @@ pub struct Plan {
 // The combinations of lengths, and the one with all lists at their need.
 pub const COMBINATIONS: u16 = 243;
 
-pub const NEEDS: u16 = 121;
+pub const AT_NEED: u16 = 121;
 
 // A graph of up to `most` vertices, with `least` edges and fewer than `more` besides.
 fn drawn(start: u64, most: u16, least: u16, more: u16) -> Plan {

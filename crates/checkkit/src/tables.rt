@@ -9,7 +9,7 @@ use testkit::files::put_words;
 use testkit::words::put;
 
 // A vertex, its distance and its parent in a result for case A: five wrong results, two right ones.
-const LABELS: [[u16; 3]; 7] = [
+const LABEL_TABLE: [[u16; 3]; 7] = [
     // the distance one more
     [3, 3, 1],
     // a parent two nearer
@@ -30,11 +30,11 @@ pub const GOOD: u16 = 5;
 
 // The tables, and how many cases each has: all results with each of 36 files, and with each of 12
 // sources; every set of ten faults with each of five lists and wrong results.
-pub const REFUSALS: u16 = 0;
+pub const REFUSAL_TABLE: u16 = 0;
 
-pub const SOURCES: u16 = 1;
+pub const SOURCE_TABLE: u16 = 1;
 
-pub const FAULTS: u16 = 2;
+pub const FAULT_TABLE: u16 = 2;
 
 pub const REFUSAL_CASES: u16 = 252;
 
@@ -79,7 +79,7 @@ fn label(row: u16, column: usize) -> u16 {
     let i = row as usize;
     if i < 7 {
         if column < 3 {
-            return LABELS[i][column];
+            return LABEL_TABLE[i][column];
         }
     }
     0
@@ -192,7 +192,7 @@ fn chosen(combination: u16, power: u16, choice: u16) -> u16 {
 
 // The query of a set of faults. The number 21 of the search is 10 here.
 fn fault_query(combination: u16, choice: u16) -> Query {
-    let request = faults::request(combination);
+    let request = faults::request_of(combination);
     let number = faults::expected(combination);
     Query {
         source: request.source as usize,
@@ -219,10 +219,10 @@ fn fault(case: u16, file: &mut [u8]) -> Case {
 
 // A case of a table, with its file, which has up to 32 bytes.
 pub fn make(table: u16, case: u16, file: &mut [u8]) -> Case {
-    if table == REFUSALS {
+    if table == REFUSAL_TABLE {
         return refusal(case, file);
     }
-    if table == SOURCES {
+    if table == SOURCE_TABLE {
         return source(case, file);
     }
     fault(case, file)

@@ -9,7 +9,7 @@ use bagkit::counts::are_ones;
 use bagkit::family;
 use bagkit::walk::filled;
 use bagkit::walk::free_nodes;
-use testkit::tally::Tally;
+use testkit::group::Tally;
 use testkit::words::at;
 
 const MOST: u16 = 32768;

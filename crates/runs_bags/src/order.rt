@@ -7,7 +7,7 @@ ghost use Rattle.bag.specs.Promises.{Pooled};
 ghost use Rattle.bagkit.specs.Family.{Room};
 use bag::Bag;
 use bagkit::family;
-use testkit::tally::Tally;
+use testkit::group::Tally;
 
 // Whether the numbers of bag i come out as listed, and none is left.
 fn comes_out(

@@ -4,7 +4,7 @@ ghost use Rattle.bagkit.specs.Family.{Room};
 use bag::Bag;
 use bagkit::contents::are_parts;
 use bagkit::family;
-use testkit::tally::Tally;
+use testkit::group::Tally;
 
 // A new pool, the numbers below `count` in bag 0, and split into bags 0 and 1.
 fn halves(count: u16, left: &mut [u16], right: &mut [u16], values: &mut [u16]) -> [Bag; 4]

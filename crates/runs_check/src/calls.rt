@@ -2,9 +2,9 @@
 // be longer than what is lent of them.
 use checkkit::queries::Query;
 use checkkit::queries::is_left;
-use searchkit::compare::MARKS;
-use searchkit::compare::OFFSETS;
-use searchkit::compare::TARGETS;
+use searchkit::compare::MARKS_TAG;
+use searchkit::compare::OFFSETS_TAG;
+use searchkit::compare::TARGETS_TAG;
 use testkit::files;
 use testkit::words::prefix;
 
@@ -62,9 +62,9 @@ fn answers_large(
     rows: &[u16],
     row_targets: &[u16],
 ) -> bool {
-    let mut offsets = [OFFSETS; 4102];
-    let mut targets = [TARGETS; 32773];
-    let mut marks = [MARKS; 32773];
+    let mut offsets = [OFFSETS_TAG; 4102];
+    let mut targets = [TARGETS_TAG; 32773];
+    let mut marks = [MARKS_TAG; 32773];
     answers_in(
         file,
         query,
@@ -91,9 +91,9 @@ pub fn answers(
     if (query.vertices > 40) | (query.edges > 120) {
         return answers_large(file, query, distances, parents, rows, row_targets);
     }
-    let mut offsets = [OFFSETS; 52];
-    let mut targets = [TARGETS; 132];
-    let mut marks = [MARKS; 132];
+    let mut offsets = [OFFSETS_TAG; 52];
+    let mut targets = [TARGETS_TAG; 132];
+    let mut marks = [MARKS_TAG; 132];
     answers_in(
         file,
         query,

@@ -3,11 +3,11 @@
 use crate::calls::answers;
 use crate::changes;
 use crate::changes::Change;
+use crate::group_sums::Outcome;
+use crate::group_sums::Sums;
+use crate::group_sums::none;
+use crate::group_sums::with;
 use crate::plans;
-use crate::sums::Outcome;
-use crate::sums::Sums;
-use crate::sums::none;
-use crate::sums::with;
 use checkkit::graphs::draw;
 use checkkit::plans::Plan;
 use checkkit::plans::number_of;

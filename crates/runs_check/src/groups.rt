@@ -1,12 +1,12 @@
 // The groups: one loop goes through the cases of a group.
 use crate::calls::answers;
 use crate::drawn;
+use crate::group_sums::Outcome;
+use crate::group_sums::Sums;
+use crate::group_sums::and;
+use crate::group_sums::none;
+use crate::group_sums::with;
 use crate::plans;
-use crate::sums::Outcome;
-use crate::sums::Sums;
-use crate::sums::and;
-use crate::sums::none;
-use crate::sums::with;
 use checkkit::plans::COMBINATIONS;
 use checkkit::results::LONGER;
 use checkkit::results::RIGHT;
@@ -14,7 +14,7 @@ use checkkit::tables;
 use libc::STDOUT_FILENO;
 
 // The groups after those of `plans`: the tables.
-const TABLES: u16 = 13;
+const FIRST_TABLE: u16 = 13;
 
 // How many graphs are drawn for right results and longer paths, for other results, for changes, and
 // for changes with longer lists.
@@ -50,10 +50,10 @@ fn tabled(table: u16, case: u16) -> Outcome {
 
 // A case of a group.
 fn sums_of(group: u16, case: u16) -> Sums {
-    if group < TABLES {
+    if group < FIRST_TABLE {
         return drawn::sums_of(group, case);
     }
-    with(none(), tabled(group - TABLES, case))
+    with(none(), tabled(group - FIRST_TABLE, case))
 }
 
 // All cases of a group.
@@ -79,29 +79,33 @@ fn print(group: u16, cases: u16, name: &[u8]) {
 // Results of small graphs.
 fn run_results() {
     print(RIGHT, GRAPHS, b"right results");
-    print(plans::VERTICES, CHANGED, b"changed labels");
-    print(plans::EDGES, CHANGED, b"other edges");
-    print(plans::LONG, LONG, b"longer lists");
+    print(plans::VERTEX_GROUP, CHANGED, b"changed labels");
+    print(plans::EDGE_GROUP, CHANGED, b"other edges");
+    print(plans::LONG_GROUP, LONG, b"longer lists");
     print(LONGER, GRAPHS, b"longer paths");
-    print(plans::OTHER, OTHERS, b"other results");
+    print(plans::OTHER_GROUP, OTHERS, b"other results");
 }
 
 // Refusals, lengths and sizes.
 fn run_inputs() {
     print(
-        TABLES + tables::REFUSALS,
+        FIRST_TABLE + tables::REFUSAL_TABLE,
         tables::REFUSAL_CASES,
         b"refusals",
     );
-    print(TABLES + tables::SOURCES, tables::SOURCE_CASES, b"sources");
     print(
-        TABLES + tables::FAULTS,
+        FIRST_TABLE + tables::SOURCE_TABLE,
+        tables::SOURCE_CASES,
+        b"sources",
+    );
+    print(
+        FIRST_TABLE + tables::FAULT_TABLE,
         tables::FAULT_CASES,
         b"sets of faults",
     );
-    print(plans::LENGTHS, COMBINATIONS, b"lengths");
-    print(plans::SIZES, plans::SIZE_CASES, b"sizes");
-    print(plans::LARGE, plans::LARGE_CASES, b"largest graphs");
+    print(plans::LENGTH_GROUP, COMBINATIONS, b"lengths");
+    print(plans::SIZE_GROUP, plans::SIZE_CASES, b"sizes");
+    print(plans::LARGE_GROUP, plans::LARGE_CASES, b"largest graphs");
 }
 
 pub fn run() {

@@ -5,9 +5,9 @@
 mod calls;
 mod changes;
 mod drawn;
+mod group_sums;
 mod groups;
 mod plans;
-mod sums;
 
 fn main() {
     groups::run();

@@ -5,9 +5,9 @@ use checkkit::queries::is_left;
 use pagekit::BLANK;
 use pagekit::is_printed;
 use pagekit::need;
-use searchkit::compare::MARKS;
-use searchkit::compare::OFFSETS;
-use searchkit::compare::TARGETS;
+use searchkit::compare::MARKS_TAG;
+use searchkit::compare::OFFSETS_TAG;
+use searchkit::compare::TARGETS_TAG;
 use testkit::files;
 use testkit::files::is_filled;
 use testkit::words::prefix;
@@ -107,9 +107,9 @@ fn call_large(
     rows: &[u16],
     row_targets: &[u16],
 ) -> Outcome {
-    let mut offsets = [OFFSETS; 4102];
-    let mut targets = [TARGETS; 32773];
-    let mut marks = [MARKS; 32773];
+    let mut offsets = [OFFSETS_TAG; 4102];
+    let mut targets = [TARGETS_TAG; 32773];
+    let mut marks = [MARKS_TAG; 32773];
     let mut bytes = [BLANK; 87770];
     call_in(
         file,
@@ -140,9 +140,9 @@ pub fn call(
     if (query.vertices > 160) | (query.edges > 480) {
         return call_large(file, query, room, distances, parents, rows, row_targets);
     }
-    let mut offsets = [OFFSETS; 172];
-    let mut targets = [TARGETS; 492];
-    let mut marks = [MARKS; 492];
+    let mut offsets = [OFFSETS_TAG; 172];
+    let mut targets = [TARGETS_TAG; 492];
+    let mut marks = [MARKS_TAG; 492];
     let mut bytes = [BLANK; 3460];
     call_in(
         file,

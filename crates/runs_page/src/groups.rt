@@ -7,11 +7,11 @@ use checkkit::plans::length;
 use checkkit::tables;
 use libc::STDOUT_FILENO;
 use pagekit::need;
-use testkit::tally::Tally;
+use testkit::group::Tally;
 
 // The groups after those of `plans`: the tables, each case with a page list one byte short, at its
 // need and longer.
-const TABLES: u16 = 4;
+const FIRST_TABLE: u16 = 4;
 
 // The tally, how many of the cases had to be laid out, and in how many it was the page list alone
 // that was too short.
@@ -69,10 +69,10 @@ fn tabled(table: u16, case: u16, choice: u16) -> Outcome {
 
 // A case of a group.
 fn outcome_of(group: u16, case: u16) -> Outcome {
-    if group < TABLES {
+    if group < FIRST_TABLE {
         return drawn::outcome_of(group, case);
     }
-    tabled(group - TABLES, case / 3, case % 3)
+    tabled(group - FIRST_TABLE, case / 3, case % 3)
 }
 
 // All cases of a group.
@@ -99,22 +99,22 @@ fn print(group: u16, cases: u16, name: &[u8]) {
 }
 
 pub fn run() {
-    print(plans::SIZES, plans::SIZE_CASES, b"sizes");
-    print(plans::RESULTS, plans::RESULT_CASES, b"results");
-    print(plans::LENGTHS, plans::LENGTH_CASES, b"lengths");
-    print(plans::LARGE, plans::LARGE_CASES, b"too large");
+    print(plans::SIZE_GROUP, plans::SIZE_CASES, b"sizes");
+    print(plans::RESULT_GROUP, plans::RESULT_CASES, b"results");
+    print(plans::LENGTH_GROUP, plans::LENGTH_CASES, b"lengths");
+    print(plans::LARGE_GROUP, plans::LARGE_CASES, b"too large");
     print(
-        TABLES + tables::REFUSALS,
+        FIRST_TABLE + tables::REFUSAL_TABLE,
         3 * tables::REFUSAL_CASES,
         b"refusals",
     );
     print(
-        TABLES + tables::SOURCES,
+        FIRST_TABLE + tables::SOURCE_TABLE,
         3 * tables::SOURCE_CASES,
         b"sources",
     );
     print(
-        TABLES + tables::FAULTS,
+        FIRST_TABLE + tables::FAULT_TABLE,
         3 * tables::FAULT_CASES,
         b"sets of faults",
     );

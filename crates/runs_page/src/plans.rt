@@ -14,13 +14,13 @@ use testkit::words::at;
 
 // Right results of graphs of every size; results of every kind; lists of every length; sizes that are
 // refused.
-pub const SIZES: u16 = 0;
+pub const SIZE_GROUP: u16 = 0;
 
-pub const RESULTS: u16 = 1;
+pub const RESULT_GROUP: u16 = 1;
 
-pub const LENGTHS: u16 = 2;
+pub const LENGTH_GROUP: u16 = 2;
 
-pub const LARGE: u16 = 3;
+pub const LARGE_GROUP: u16 = 3;
 
 // How many cases they have: each size as a path, drawn and without edges, with each of four page
 // lists; each result with each of three page lists; each combination with each of three; three sizes
@@ -55,7 +55,7 @@ const VERTICES: [u16; 16] = [
 
 // Whether the graph of a case is a path.
 pub fn is_path(group: u16, case: u16) -> bool {
-    (group == SIZES) & (case / 4 % 3 == 0)
+    (group == SIZE_GROUP) & (case / 4 % 3 == 0)
 }
 
 // A path, a drawn graph with eight times as many edges as vertices, or no edges.
@@ -82,14 +82,14 @@ fn large(choice: u16) -> Plan {
 
 // The graph and the source of a case.
 pub fn plan_of(group: u16, case: u16) -> Plan {
-    if group == SIZES {
+    if group == SIZE_GROUP {
         let vertices = at(&VERTICES, case / 12);
         return sized(vertices, edges(vertices, case / 4 % 3));
     }
-    if group == RESULTS {
+    if group == RESULT_GROUP {
         return medium(case / 3);
     }
-    if group == LENGTHS {
+    if group == LENGTH_GROUP {
         return sized(107, 301);
     }
     large(case / 3)
@@ -97,7 +97,7 @@ pub fn plan_of(group: u16, case: u16) -> Plan {
 
 // The kind of a case's result.
 pub fn kind_of(group: u16, case: u16) -> u16 {
-    if group == RESULTS {
+    if group == RESULT_GROUP {
         case / 3 % KINDS
     } else {
         RIGHT
@@ -106,7 +106,7 @@ pub fn kind_of(group: u16, case: u16) -> u16 {
 
 // How long the lists are: by the group, else at their need or up to three places longer.
 pub fn lengths_of(group: u16, case: u16, plan: Plan) -> Lengths {
-    if group == LENGTHS {
+    if group == LENGTH_GROUP {
         return lent(plan, case / 3);
     }
     needs(plan.vertices, plan.edges, 1, case % 4)
@@ -114,7 +114,11 @@ pub fn lengths_of(group: u16, case: u16, plan: Plan) -> Lengths {
 
 // How long the page list is: one byte short, at its need, five bytes longer, or empty.
 pub fn room_of(group: u16, case: u16, plan: Plan) -> usize {
-    let choice = if group == SIZES { case % 4 } else { case % 3 };
+    let choice = if group == SIZE_GROUP {
+        case % 4
+    } else {
+        case % 3
+    };
     if choice == 3 {
         return 0;
     }

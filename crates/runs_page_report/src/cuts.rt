@@ -15,7 +15,7 @@ const LENGTHS: u16 = 100;
 // Where the count is whole, where n and m are, and where the file ends.
 const HEAD: u16 = 4;
 
-const SIZES: u16 = 24;
+const SIZES_END: u16 = 24;
 
 const WHOLE: u16 = 48;
 
@@ -34,7 +34,7 @@ fn expected(kind: u16, length: u16) -> u16 {
     if kind == LARGE_COUNT {
         return 20;
     }
-    if length < SIZES {
+    if length < SIZES_END {
         return 1;
     }
     if kind == NO_VERTEX {

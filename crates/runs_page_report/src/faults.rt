@@ -9,7 +9,7 @@ use searchkit::faults;
 pub const COMBINATIONS: u16 = 4096;
 
 // How many sets of the other faults there are.
-const OTHERS: u16 = 1024;
+const OTHER_SETS: u16 = 1024;
 
 // The faults that come first: fewer than two words, too many distances.
 const UNDER_TWO_WORDS: u16 = 1;
@@ -29,7 +29,7 @@ fn others(combination: u16) -> u16 {
 
 // The number of the first fault, or 0 where there is none.
 fn expected(combination: u16) -> u16 {
-    let own = combination / OTHERS;
+    let own = combination / OTHER_SETS;
     if faults::has(own, UNDER_TWO_WORDS) {
         return 1;
     }
@@ -42,7 +42,7 @@ fn expected(combination: u16) -> u16 {
 
 // How many distances the input has.
 fn count(combination: u16) -> u16 {
-    if faults::has(combination / OTHERS, LARGE_COUNT) {
+    if faults::has(combination / OTHER_SETS, LARGE_COUNT) {
         return 4097;
     }
     if faults::has(others(combination), SHORT) {
@@ -63,7 +63,7 @@ fn labels(combination: u16) -> u16 {
 
 // How much of the input is given.
 fn given(combination: u16, length: usize) -> usize {
-    if faults::has(combination / OTHERS, UNDER_TWO_WORDS) {
+    if faults::has(combination / OTHER_SETS, UNDER_TWO_WORDS) {
         3
     } else {
         length
@@ -71,8 +71,8 @@ fn given(combination: u16, length: usize) -> usize {
 }
 
 // The words of the input and the length of its file.
-fn parts(combination: u16) -> Parts {
-    let request = faults::request(others(combination));
+fn parts_of(combination: u16) -> Parts {
+    let request = faults::request_of(others(combination));
     Parts {
         source: request.source,
         count: count(combination),
@@ -89,7 +89,13 @@ pub fn is_right(combination: u16) -> bool {
     faults::make_file(&mut file, other);
     faults::make_chains(&mut file, other);
     tables::put_labels(labels(combination), &mut distances, &mut parents);
-    let length = compose(&mut input, parts(combination), &distances, &parents, &file);
+    let length = compose(
+        &mut input,
+        parts_of(combination),
+        &distances,
+        &parents,
+        &file,
+    );
     answers(
         &input,
         given(combination, length),

@@ -5,34 +5,34 @@ use crate::faults;
 use crate::rooms;
 use crate::sizes;
 use crate::tables;
-use testkit::tally::Tally;
+use testkit::group::Tally;
 
-const OWN: u16 = 0;
+const OWN_GROUP: u16 = 0;
 
-const REFUSALS: u16 = 1;
+const REFUSAL_GROUP: u16 = 1;
 
-const SOURCES: u16 = 2;
+const SOURCE_GROUP: u16 = 2;
 
-const FAULTS: u16 = 3;
+const FAULT_GROUP: u16 = 3;
 
-const CUTS: u16 = 4;
+const CUT_GROUP: u16 = 4;
 
-const SIZES: u16 = 5;
+const SIZE_GROUP: u16 = 5;
 
-const DRAWN: u16 = 6;
+const DRAWN_GROUP: u16 = 6;
 
-const ROOMS: u16 = 7;
+const ROOM_GROUP: u16 = 7;
 
 // A case of a group.
 fn is_right(group: u16, case: u16) -> bool {
     match group {
-        OWN => tables::own_is_right(case),
-        REFUSALS => tables::refusal_is_right(case),
-        SOURCES => tables::source_is_right(case),
-        FAULTS => faults::is_right(case),
-        CUTS => cuts::is_right(case),
-        SIZES => sizes::is_right(case),
-        DRAWN => drawn::is_right(case),
+        OWN_GROUP => tables::own_is_right(case),
+        REFUSAL_GROUP => tables::refusal_is_right(case),
+        SOURCE_GROUP => tables::source_is_right(case),
+        FAULT_GROUP => faults::is_right(case),
+        CUT_GROUP => cuts::is_right(case),
+        SIZE_GROUP => sizes::is_right(case),
+        DRAWN_GROUP => drawn::is_right(case),
         _ => rooms::is_right(case),
     }
 }
@@ -49,12 +49,12 @@ fn all(group: u16, cases: u16) -> Tally {
 }
 
 pub fn run() {
-    all(OWN, tables::OWN).print(b"the program's own order");
-    all(REFUSALS, tables::REFUSALS).print(b"refusals");
-    all(SOURCES, tables::SOURCES).print(b"sources");
-    all(FAULTS, faults::COMBINATIONS).print(b"sets of faults");
-    all(CUTS, cuts::CASES).print(b"cut and longer inputs");
-    all(SIZES, sizes::ROWS).print(b"sizes");
-    all(DRAWN, drawn::CASES).print(b"drawn graphs");
-    all(ROOMS, rooms::CASES).print(b"lengths of the output list");
+    all(OWN_GROUP, tables::OWN).print(b"the program's own order");
+    all(REFUSAL_GROUP, tables::REFUSALS).print(b"refusals");
+    all(SOURCE_GROUP, tables::SOURCES).print(b"sources");
+    all(FAULT_GROUP, faults::COMBINATIONS).print(b"sets of faults");
+    all(CUT_GROUP, cuts::CASES).print(b"cut and longer inputs");
+    all(SIZE_GROUP, sizes::ROWS).print(b"sizes");
+    all(DRAWN_GROUP, drawn::CASES).print(b"drawn graphs");
+    all(ROOM_GROUP, rooms::CASES).print(b"lengths of the output list");
 }

@@ -7,7 +7,7 @@ use testkit::files::is_filled;
 use testkit::files::prefix;
 
 // How many places the program's output list has, and five more.
-const PLACES: usize = 87743;
+const OUTPUT_PLACES: usize = 87743;
 
 // The answer to the first bytes of the input, with the first places of the output.
 pub fn respond(input: &[u8], length: usize, output: &mut [u8], places: usize) -> usize {
@@ -54,7 +54,7 @@ pub fn answers(
     distances: &[u16],
     parents: &[u16],
 ) -> bool {
-    let mut output = [BLANK; PLACES];
-    let count = respond(input, length, &mut output, PLACES);
+    let mut output = [BLANK; OUTPUT_PLACES];
+    let count = respond(input, length, &mut output, OUTPUT_PLACES);
     is_reply(&output, count, number, vertices, distances, parents)
 }

@@ -11,15 +11,15 @@ use testkit::files::is_filled;
 pub const CASES: u16 = 27;
 
 // The lengths.
-const PLACES: [usize; 9] = [0, 1, 3, 20, 105, 87737, 87738, 87739, 87743];
+const ROOM_PLACES: [usize; 9] = [0, 1, 3, 20, 105, 87737, 87738, 87739, 87743];
 
 // How many places any output may need.
-const NEED: usize = 87738;
+const OUTPUT_NEED: usize = 87738;
 
 // A case's length.
 fn places(case: u16) -> usize {
     let i = (case % 9) as usize;
-    PLACES[i]
+    ROOM_PLACES[i]
 }
 
 // Whether the first bytes of case A's input, with these labels, are answered with the number.
@@ -28,7 +28,7 @@ fn is_answered(case: u16, length: usize, number: u16, distances: &[u16], parents
     let mut output = [BLANK; 87743];
     put_square(&mut input, 0, distances, parents);
     let count = respond(&input, length, &mut output, places(case));
-    if places(case) < NEED {
+    if places(case) < OUTPUT_NEED {
         return (count == 0) & is_filled(&output, 0, BLANK);
     }
     is_reply(&output, count, number, 4, distances, parents)

@@ -106,10 +106,10 @@ fn is_right(table: u16, case: u16) -> bool {
 
 // A case of the table of refusals.
 pub fn refusal_is_right(case: u16) -> bool {
-    is_right(tables::REFUSALS, case)
+    is_right(tables::REFUSAL_TABLE, case)
 }
 
 // A case of the table of sources, of which the first seven are words.
 pub fn source_is_right(case: u16) -> bool {
-    is_right(tables::SOURCES, case % 7 + case / 7 % 7 * 12)
+    is_right(tables::SOURCE_TABLE, case % 7 + case / 7 % 7 * 12)
 }

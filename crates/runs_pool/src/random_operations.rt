@@ -18,10 +18,10 @@ use bagkit::counts::raise;
 use bagkit::counts::total;
 use bagkit::family;
 use bagkit::walk::free_nodes;
+use testkit::group::Tally;
 use testkit::random::below;
 use testkit::random::leap;
 use testkit::random::next;
-use testkit::tally::Tally;
 use testkit::words::agree;
 use testkit::words::at;
 

@@ -1,7 +1,7 @@
 // The lists as a whole: what `bag::sweep` clears and what it keeps, which places `bag::pool` chains
 // and which it keeps. Both with known contents before, at every size that the lists have room for.
 use bagkit::walk::free_nodes;
-use testkit::tally::Tally;
+use testkit::group::Tally;
 use testkit::words::at_place;
 use testkit::words::holds;
 use testkit::words::is_stamped;

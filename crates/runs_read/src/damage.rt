@@ -2,6 +2,7 @@
 use crate::oracle::predict;
 use libc::STDOUT_FILENO;
 use testkit::files;
+use testkit::group::Tally;
 use testkit::random::below;
 use testkit::random::leap;
 use testkit::random::next;
@@ -11,7 +12,6 @@ use testkit::sample::after;
 use testkit::sample::draw_file;
 use testkit::sample::file_length;
 use testkit::sample::record_place;
-use testkit::tally::Tally;
 use testkit::words::at;
 
 const VERTICES: u16 = 12;
@@ -20,7 +20,7 @@ const EDGES: u16 = 30;
 // The file has 148 bytes.
 const LENGTH: u16 = 148;
 
-const ROUNDS: u16 = 4000;
+const ROUND_COUNT: u16 = 4000;
 // The first rounds damage each byte in turn, four times; those up to the second bound the chains.
 const BYTE_ROUNDS: u16 = 592;
 
@@ -176,7 +176,7 @@ fn rounds(met: &mut [u16]) -> Tally {
     let mut tally = Tally::new();
     let mut state: u64 = 4;
     let mut round: u16 = 0;
-    while round < ROUNDS {
+    while round < ROUND_COUNT {
         state = leap(state);
         let number = outcome(round, state);
         tally = tally.with(number != WRONG);

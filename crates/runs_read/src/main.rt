@@ -2,14 +2,14 @@
 // had, and how many went wrong.
 mod damage;
 mod drawn;
-mod lengths;
 mod oracle;
 mod refusals;
+mod short_lists;
 mod sizes;
 
 fn main() {
     refusals::run();
     sizes::run();
-    lengths::run();
+    short_lists::run();
     damage::run();
 }

@@ -2,14 +2,14 @@
 // to given lengths, and compares the answer and the three lists in full.
 use testkit::files::put_word;
 use testkit::files::put_words;
+use testkit::group::Tally;
 use testkit::reading::Lengths;
 use testkit::reading::refuses;
-use testkit::tally::Tally;
 
 // A file that can be read: 4 vertices, 4 edges; the heads; the records, target and next.
 const BASE: [u16; 16] = [4, 4, 1, 3, 4, 0, 1, 2, 2, 0, 3, 0, 3, 0, 0, 0];
 
-const ROWS: u16 = 46;
+const CASE_ROWS: u16 = 46;
 
 // The file's length; a place and its word, twice; the lengths of offsets, targets, marks; the
 // number. Word 0 as 4 is no change.
@@ -130,7 +130,7 @@ fn is_right(row: u16) -> bool {
 fn table() -> Tally {
     let mut tally = Tally::new();
     let mut row: u16 = 0;
-    while row < ROWS {
+    while row < CASE_ROWS {
         tally = tally.with(is_right(row));
         row += 1;
     }

@@ -1,8 +1,8 @@
 // The largest files that may be read, and the smallest that are too large, each of the length that
 // its words ask for, and the lists at their need.
 use crate::drawn;
+use testkit::group::Tally;
 use testkit::reading::needs;
-use testkit::tally::Tally;
 
 fn is_right(vertices: u16, edges: u16, number: usize) -> bool {
     drawn::is_right(vertices, edges, needs(vertices, edges), number)

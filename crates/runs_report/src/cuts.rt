@@ -11,12 +11,12 @@ pub const CASES: u16 = 500;
 
 const LENGTHS: u16 = 100;
 
-const EVENTS: u16 = 25;
+const SQUARE_EVENTS: u16 = 25;
 
 // Where the sheet length is whole, where n and m are, and where the file ends.
 const HEAD: u16 = 6;
 
-const SIZES: u16 = 35;
+const SIZES_END: u16 = 35;
 
 const WHOLE: u16 = 59;
 
@@ -38,7 +38,7 @@ fn expected(kind: u16, length: u16) -> u16 {
     if kind == LONG_SCHEDULE {
         return 20;
     }
-    if length < SIZES {
+    if length < SIZES_END {
         return 1;
     }
     if (kind == NO_VERTEX) | (kind == MANY_EDGES) {
@@ -60,11 +60,15 @@ fn vertices(kind: u16) -> u16 {
 
 // Stores the words that an input is refused for.
 fn spoil(input: &mut [u8], kind: u16) {
-    let events = if kind == LONG_SCHEDULE { 8193 } else { EVENTS };
+    let events = if kind == LONG_SCHEDULE {
+        8193
+    } else {
+        SQUARE_EVENTS
+    };
     let edges = if kind == MANY_EDGES { 32769 } else { 4 };
     put_word(input, 2, events);
-    put_file_word(input, EVENTS, 0, vertices(kind));
-    put_file_word(input, EVENTS, 1, edges);
+    put_file_word(input, SQUARE_EVENTS, 0, vertices(kind));
+    put_file_word(input, SQUARE_EVENTS, 1, edges);
 }
 
 // Other bytes stand behind case A's input.
@@ -73,7 +77,7 @@ pub fn is_right(case: u16) -> bool {
     let kind = case / LENGTHS;
     let length = case % LENGTHS;
     stamp(&mut input, 3);
-    put_square(&mut input, EVENTS);
+    put_square(&mut input, SQUARE_EVENTS);
     spoil(&mut input, kind);
     answers(&input, length as usize, 4, expected(kind, length))
 }

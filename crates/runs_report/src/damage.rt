@@ -9,14 +9,14 @@ use searchkit::requests::is_played;
 use testkit::files::at;
 use testkit::files::put;
 use testkit::files::word;
+use testkit::group::Tally;
 use testkit::random::below;
 use testkit::random::leap;
 use testkit::random::next;
 use testkit::sample::after;
-use testkit::tally::Tally;
 use testkit::words;
 
-const ROUNDS: u16 = 2400;
+const ROUND_COUNT: u16 = 2400;
 
 // The first rounds draw all bytes.
 const BYTE_ROUNDS: u16 = 600;
@@ -91,7 +91,7 @@ fn is_counted(done: Outcome, events: u16) -> bool {
 }
 
 // The reply's number, or `WRONG` where its form is not right.
-fn outcome(round: u16, seed: u64) -> usize {
+fn outcome_of(round: u16, seed: u64) -> usize {
     let mut input = [0u8; 200];
     let mut distances = [0u16; 512];
     let mut parents = [0u16; 512];
@@ -118,9 +118,9 @@ fn rounds(met: &mut [u16]) -> Tally {
     let mut tally = Tally::new();
     let mut state: u64 = 4;
     let mut round: u16 = 0;
-    while round < ROUNDS {
+    while round < ROUND_COUNT {
         state = leap(state);
-        let number = outcome(round, state);
+        let number = outcome_of(round, state);
         tally = tally.with(number != WRONG);
         count(met, number);
         round += 1;

@@ -13,10 +13,10 @@ use testkit::sample::draw_file;
 use testkit::sample::file_length;
 
 // Each workers' number with each mixture and each kind of length, twice.
-pub const ROUNDS: u16 = 320;
+pub const ROUND_COUNT: u16 = 320;
 
 // The words of the input and the length of its file.
-fn parts(plan: Plan) -> Parts {
+fn parts_of(plan: Plan) -> Parts {
     Parts {
         source: plan.source,
         workers: plan.workers,
@@ -72,7 +72,7 @@ fn run_in(
         plan.workers,
         seed,
     );
-    let length = compose(input, parts(plan), schedule, file);
+    let length = compose(input, parts_of(plan), schedule, file);
     let given = std::num::wrapping_add_usize(length, more as usize);
     judged(input, given, plan, rows, row_targets)
 }
@@ -102,7 +102,7 @@ pub fn run(plan: Plan, more: u16) -> Outcome {
 
 // A round: no drawn input is refused.
 pub fn is_right(round: u16) -> bool {
-    let done = run(random_plans::plan(round), 0);
+    let done = run(random_plans::plan_of(round), 0);
     let seen = done.seen;
     done.right & is_played(seen.number)
 }

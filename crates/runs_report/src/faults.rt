@@ -91,7 +91,7 @@ fn make_schedule(schedule: &mut [u8], combination: u16) {
 }
 
 // The words of the input and the length of its file.
-fn parts(combination: u16) -> Parts {
+fn parts_of(combination: u16) -> Parts {
     let events = either(combination, SHORT_SCHEDULE, 1, 26);
     let length = either(combination, CUT_FILE, 27, 28);
     Parts {
@@ -118,6 +118,6 @@ pub fn is_right(combination: u16) -> bool {
     make_file(&mut file, combination);
     make_chains(&mut file, combination);
     make_schedule(&mut schedule, combination);
-    let length = compose(&mut input, parts(combination), &schedule, &file);
+    let length = compose(&mut input, parts_of(combination), &schedule, &file);
     answers(&input, given(combination, length), 4, expected(combination))
 }

@@ -6,40 +6,40 @@ use crate::rooms;
 use crate::sizes;
 use crate::tables;
 use searchkit::refusals;
-use testkit::tally::Tally;
+use testkit::group::Tally;
 
-const OWN: u16 = 0;
+const OWN_GROUP: u16 = 0;
 
-const REFUSALS: u16 = 1;
+const REFUSAL_GROUP: u16 = 1;
 
-const FAULTS: u16 = 2;
+const FAULT_GROUP: u16 = 2;
 
-const CUTS: u16 = 3;
+const CUT_GROUP: u16 = 3;
 
-const SIZES: u16 = 4;
+const SIZE_GROUP: u16 = 4;
 
-const DRAWN: u16 = 5;
+const DRAWN_GROUP: u16 = 5;
 
-const ROOMS: u16 = 6;
+const ROOM_GROUP: u16 = 6;
 
 // A case of a group.
 fn is_right(group: u16, case: u16) -> bool {
-    if group == OWN {
+    if group == OWN_GROUP {
         return tables::own_is_right(case);
     }
-    if group == REFUSALS {
+    if group == REFUSAL_GROUP {
         return tables::is_right(case);
     }
-    if group == FAULTS {
+    if group == FAULT_GROUP {
         return faults::is_right(case);
     }
-    if group == CUTS {
+    if group == CUT_GROUP {
         return cuts::is_right(case);
     }
-    if group == SIZES {
+    if group == SIZE_GROUP {
         return sizes::is_right(case);
     }
-    if group == DRAWN {
+    if group == DRAWN_GROUP {
         return drawn::is_right(case);
     }
     rooms::is_right(case)
@@ -57,11 +57,11 @@ fn all(group: u16, cases: u16) -> Tally {
 }
 
 pub fn run() {
-    all(OWN, tables::OWN).print(b"the program's own order");
-    all(REFUSALS, refusals::ROWS).print(b"refusals");
-    all(FAULTS, faults::COMBINATIONS).print(b"sets of faults");
-    all(CUTS, cuts::CASES).print(b"cut and longer inputs");
-    all(SIZES, sizes::ROWS).print(b"sizes");
-    all(DRAWN, drawn::ROUNDS).print(b"drawn graphs");
-    all(ROOMS, rooms::CASES).print(b"lengths of the output list");
+    all(OWN_GROUP, tables::OWN).print(b"the program's own order");
+    all(REFUSAL_GROUP, refusals::ROWS).print(b"refusals");
+    all(FAULT_GROUP, faults::COMBINATIONS).print(b"sets of faults");
+    all(CUT_GROUP, cuts::CASES).print(b"cut and longer inputs");
+    all(SIZE_GROUP, sizes::ROWS).print(b"sizes");
+    all(DRAWN_GROUP, drawn::ROUND_COUNT).print(b"drawn graphs");
+    all(ROOM_GROUP, rooms::CASES).print(b"lengths of the output list");
 }

@@ -11,13 +11,13 @@ use testkit::words::at;
 pub const CASES: u16 = 33;
 
 // The lengths.
-const PLACES: [u16; 11] = [0, 1, 8, 83, 84, 8191, 8274, 8275, 8276, 8277, 8300];
+const ROOM_PLACES: [u16; 11] = [0, 1, 8, 83, 84, 8191, 8274, 8275, 8276, 8277, 8300];
 
 // How many places any output may need.
-const NEED: usize = 8276;
+const OUTPUT_NEED: usize = 8276;
 
 // An input's vertices, its length, the number, and the length of its output.
-const INPUTS: [[u16; 4]; 3] = [
+const INPUT_TABLE: [[u16; 4]; 3] = [
     // empty: `1 0 0 0`
     [0, 0, 1, 8],
     // n 1 and no schedule: `21 0 0 0` and `0 0 0`
@@ -28,7 +28,7 @@ const INPUTS: [[u16; 4]; 3] = [
 
 // A case's length.
 fn places(case: u16) -> usize {
-    at(&PLACES, case % 11) as usize
+    at(&ROOM_PLACES, case % 11) as usize
 }
 
 // A place of the inputs' table; 0 outside it.
@@ -36,7 +36,7 @@ fn cell(case: u16, column: usize) -> u16 {
     let i = (case / 11) as usize;
     if i < 3 {
         if column < 4 {
-            return INPUTS[i][column];
+            return INPUT_TABLE[i][column];
         }
     }
     0
@@ -58,7 +58,7 @@ pub fn is_right(case: u16) -> bool {
     put_head(&mut input, 0, 1, 0);
     put_file_word(&mut input, 0, 0, cell(case, 0));
     let count = respond(&input, cell(case, 1) as usize, &mut output, places(case));
-    if places(case) < NEED {
+    if places(case) < OUTPUT_NEED {
         return (count == 0) & is_filled(&output, 0, BLANK);
     }
     is_written(&output, count, case)

@@ -34,7 +34,7 @@ fn cell(row: u16, column: u16) -> u16 {
     0
 }
 
-fn plan(row: u16) -> Plan {
+fn plan_of(row: u16) -> Plan {
     Plan {
         vertices: cell(row, 0),
         edges: cell(row, 1),
@@ -47,7 +47,7 @@ fn plan(row: u16) -> Plan {
 }
 
 pub fn is_right(row: u16) -> bool {
-    let done = drawn::run(plan(row), cell(row, 5));
+    let done = drawn::run(plan_of(row), cell(row, 5));
     let seen = done.seen;
     done.right & (seen.number == cell(row, 6) as usize)
 }

@@ -1,9 +1,8 @@
 // Searches of drawn graphs under drawn schedules, judged by a queue search of the same graph.
 use crate::rooms;
-use searchkit::compare::DISTANCES;
-use searchkit::compare::PARENTS;
+use searchkit::compare::DISTANCES_TAG;
+use searchkit::compare::PARENTS_TAG;
 use searchkit::events;
-use searchkit::lengths;
 use searchkit::plans::Plan;
 use searchkit::plans::judge;
 use searchkit::plans::request_of;
@@ -13,12 +12,13 @@ use searchkit::requests::Outcome;
 use searchkit::requests::Report;
 use searchkit::requests::Request;
 use searchkit::requests::is_played;
+use searchkit::short_lists;
 use searchkit::sizes;
 use testkit::random::leap;
 use testkit::sample::draw_file;
 
 // Calls with small lists where they are enough.
-fn outcome(
+fn outcome_of(
     file: &[u8],
     schedule: &[u8],
     request: Request,
@@ -59,10 +59,10 @@ fn searched(
     rows: &[u16],
     row_targets: &[u16],
 ) -> Report {
-    let mut distances = [DISTANCES; 4102];
-    let mut parents = [PARENTS; 4102];
+    let mut distances = [DISTANCES_TAG; 4102];
+    let mut parents = [PARENTS_TAG; 4102];
     let request = request_of(plan, lengths);
-    let done = outcome(
+    let done = outcome_of(
         file,
         schedule,
         request,
@@ -152,18 +152,22 @@ fn numbered(plan: Plan, lengths: Lengths, number: usize) -> Report {
 
 // Lists of every length.
 pub fn lengths_report(combination: u16) -> Report {
-    let lent = lengths::lent(combination);
-    numbered(lengths::plan(), lent, lengths::expected(combination))
+    let lent = short_lists::lent(combination);
+    numbered(
+        short_lists::one_plan(),
+        lent,
+        short_lists::expected(combination),
+    )
 }
 
 // Graphs of every size.
 pub fn sizes_report(row: u16) -> Report {
-    let plan = sizes::plan(row);
+    let plan = sizes::plan_of(row);
     numbered(plan, sizes::lent(plan), sizes::number(row))
 }
 
 // Random graphs and schedules.
 pub fn random_report(round: u16) -> Report {
-    let plan = random_plans::plan(round);
+    let plan = random_plans::plan_of(round);
     run(plan, random_plans::lent(plan, round))
 }

@@ -4,24 +4,24 @@ use crate::tables;
 use libc::STDOUT_FILENO;
 use searchkit::bench;
 use searchkit::faults;
-use searchkit::lengths;
 use searchkit::random_plans;
 use searchkit::refusals;
 use searchkit::requests::Report;
+use searchkit::short_lists;
 use searchkit::sizes;
-use testkit::tally::Tally;
+use testkit::group::Tally;
 
-const REFUSALS: u16 = 0;
+const REFUSAL_GROUP: u16 = 0;
 
-const FAULTS: u16 = 1;
+const FAULT_GROUP: u16 = 1;
 
-const LENGTHS: u16 = 2;
+const LENGTH_GROUP: u16 = 2;
 
-const RANDOM: u16 = 3;
+const RANDOM_GROUP: u16 = 3;
 
-const SIZES: u16 = 4;
+const SIZE_GROUP: u16 = 4;
 
-const BENCH: u16 = 5;
+const BENCH_GROUP: u16 = 5;
 
 // A group's tally, how many of its searches were finished, the sums of what was answered, and a
 // number made of all labels.
@@ -54,20 +54,20 @@ fn with(sums: Sums, report: Report) -> Sums {
 }
 
 // A case of a group.
-fn report(group: u16, case: u16) -> Report {
-    if group == REFUSALS {
+fn report_of(group: u16, case: u16) -> Report {
+    if group == REFUSAL_GROUP {
         return tables::refusals_report(case);
     }
-    if group == FAULTS {
+    if group == FAULT_GROUP {
         return tables::faults_report(case);
     }
-    if group == LENGTHS {
+    if group == LENGTH_GROUP {
         return drawn::lengths_report(case);
     }
-    if group == RANDOM {
+    if group == RANDOM_GROUP {
         return drawn::random_report(case);
     }
-    if group == SIZES {
+    if group == SIZE_GROUP {
         return drawn::sizes_report(case);
     }
     tables::bench_report(case)
@@ -85,7 +85,7 @@ fn all(group: u16, cases: u16) -> Sums {
     };
     let mut case: u16 = 0;
     while case < cases {
-        sums = with(sums, report(group, case));
+        sums = with(sums, report_of(group, case));
         case += 1;
     }
     sums
@@ -117,10 +117,14 @@ fn print_sums(group: u16, cases: u16, name: &[u8]) {
 }
 
 pub fn run() {
-    print(BENCH, bench::CASES, b"cases A to I");
-    print(REFUSALS, refusals::ROWS, b"refusals");
-    print(FAULTS, faults::COMBINATIONS, b"sets of faults");
-    print(LENGTHS, lengths::COMBINATIONS, b"lengths of the lists");
-    print_sums(RANDOM, random_plans::ROUNDS, b"random schedules");
-    print_sums(SIZES, sizes::ROWS, b"sizes");
+    print(BENCH_GROUP, bench::CASES, b"cases A to I");
+    print(REFUSAL_GROUP, refusals::ROWS, b"refusals");
+    print(FAULT_GROUP, faults::COMBINATIONS, b"sets of faults");
+    print(
+        LENGTH_GROUP,
+        short_lists::COMBINATIONS,
+        b"lengths of the lists",
+    );
+    print_sums(RANDOM_GROUP, random_plans::ROUNDS, b"random schedules");
+    print_sums(SIZE_GROUP, sizes::ROWS, b"sizes");
 }

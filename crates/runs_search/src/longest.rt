@@ -1,20 +1,20 @@
 // The longest schedule, which finishes the search with its last byte; and one that is too long.
 use crate::rooms;
-use searchkit::compare::DISTANCES;
-use searchkit::compare::PARENTS;
+use searchkit::compare::DISTANCES_TAG;
+use searchkit::compare::PARENTS_TAG;
 use searchkit::requests::Request;
 use searchkit::requests::Seen;
 use searchkit::requests::needs;
 use testkit::files::put;
-use testkit::tally::Tally;
+use testkit::group::Tally;
 
 const MOST: usize = 5000000;
 
 // The answer to the first `length` bytes, for one vertex and one worker; the number 99 where the
 // lists are not left as they must be.
-fn answer(schedule: &[u8], length: usize) -> Seen {
-    let mut distances = [DISTANCES; 4];
-    let mut parents = [PARENTS; 4];
+fn answer_to(schedule: &[u8], length: usize) -> Seen {
+    let mut distances = [DISTANCES_TAG; 4];
+    let mut parents = [PARENTS_TAG; 4];
     let request = Request {
         source: 0,
         workers: 1,
@@ -52,8 +52,8 @@ fn is_answer(seen: Seen, number: usize, used: usize, effective: usize) -> bool {
 // Both cases. The last byte but one is the close, all others are work.
 fn cases(schedule: &mut [u8; 5000001]) -> Tally {
     put(schedule, MOST - 1, 192);
-    let longest = is_answer(answer(schedule, MOST), 0, MOST, 2);
-    let too_long = is_answer(answer(schedule, MOST + 1), 9, 0, 0);
+    let longest = is_answer(answer_to(schedule, MOST), 0, MOST, 2);
+    let too_long = is_answer(answer_to(schedule, MOST + 1), 9, 0, 0);
     Tally::new().with(longest).with(too_long)
 }
 

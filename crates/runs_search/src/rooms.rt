@@ -1,12 +1,12 @@
-// Calls with lists of two sizes. Distances and parents come from the caller, with `DISTANCES` and
-// `PARENTS` at all places.
+// Calls with lists of two sizes. Distances and parents come from the caller, with `DISTANCES_TAG` and
+// `PARENTS_TAG` at all places.
 use crate::calls::call;
-use searchkit::compare::LEFT;
-use searchkit::compare::MARKS;
-use searchkit::compare::NUMBER;
-use searchkit::compare::OFFSETS;
-use searchkit::compare::RIGHT;
-use searchkit::compare::TARGETS;
+use searchkit::compare::LEFT_TAG;
+use searchkit::compare::MARKS_TAG;
+use searchkit::compare::OFFSETS_TAG;
+use searchkit::compare::RIGHT_TAG;
+use searchkit::compare::TARGETS_TAG;
+use searchkit::compare::VALUES_TAG;
 use searchkit::requests::Outcome;
 use searchkit::requests::Request;
 
@@ -20,12 +20,12 @@ pub fn large(
     distances: &mut [u16],
     parents: &mut [u16],
 ) -> Outcome {
-    let mut offsets = [OFFSETS; 4102];
-    let mut targets = [TARGETS; 32773];
-    let mut marks = [MARKS; 32773];
-    let mut left = [LEFT; 32774];
-    let mut right = [RIGHT; 32774];
-    let mut number = [NUMBER; 32774];
+    let mut offsets = [OFFSETS_TAG; 4102];
+    let mut targets = [TARGETS_TAG; 32773];
+    let mut marks = [MARKS_TAG; 32773];
+    let mut left = [LEFT_TAG; 32774];
+    let mut right = [RIGHT_TAG; 32774];
+    let mut number = [VALUES_TAG; 32774];
     call(
         file,
         schedule,
@@ -53,12 +53,12 @@ pub fn small(
     distances: &mut [u16],
     parents: &mut [u16],
 ) -> Outcome {
-    let mut offsets = [OFFSETS; 48];
-    let mut targets = [TARGETS; 118];
-    let mut marks = [MARKS; 118];
-    let mut left = [LEFT; 370];
-    let mut right = [RIGHT; 370];
-    let mut number = [NUMBER; 370];
+    let mut offsets = [OFFSETS_TAG; 48];
+    let mut targets = [TARGETS_TAG; 118];
+    let mut marks = [MARKS_TAG; 118];
+    let mut left = [LEFT_TAG; 370];
+    let mut right = [RIGHT_TAG; 370];
+    let mut number = [VALUES_TAG; 370];
     call(
         file,
         schedule,

@@ -6,8 +6,8 @@ use searchkit::base::SCHEDULE;
 use searchkit::base::code;
 use searchkit::bench;
 use searchkit::bench::is_answer;
-use searchkit::compare::DISTANCES;
-use searchkit::compare::PARENTS;
+use searchkit::compare::DISTANCES_TAG;
+use searchkit::compare::PARENTS_TAG;
 use searchkit::faults;
 use searchkit::refusals;
 use searchkit::requests::Report;
@@ -25,8 +25,8 @@ fn called(
     request: Request,
     number: u16,
 ) -> Report {
-    let mut distances = [DISTANCES; 24];
-    let mut parents = [PARENTS; 24];
+    let mut distances = [DISTANCES_TAG; 24];
+    let mut parents = [PARENTS_TAG; 24];
     let done = rooms::small(
         file,
         schedule,
@@ -106,7 +106,7 @@ pub fn faults_report(combination: u16) -> Report {
     faults::make_file(&mut file, combination);
     faults::make_chains(&mut file, combination);
     faults::make_schedule(&mut schedule, combination);
-    let request = faults::request(combination);
+    let request = faults::request_of(combination);
     called_square(&file, &schedule, request, faults::expected(combination))
 }
 

@@ -1,12 +1,12 @@
 // Good rows with damage. What writing them must answer is foretold here by a plain check; what is
 // written must be read back as the same rows.
 use crate::writing;
+use testkit::group::Tally;
 use testkit::random::below;
 use testkit::random::leap;
 use testkit::random::next;
 use testkit::reading;
 use testkit::sample::draw;
-use testkit::tally::Tally;
 use testkit::words::at;
 use testkit::words::put;
 
@@ -14,7 +14,7 @@ const VERTICES: u16 = 9;
 
 const EDGES: u16 = 20;
 
-const ROUNDS: u16 = 2000;
+const ROUND_COUNT: u16 = 2000;
 
 // Whether an offset is above the one after it, from the last on.
 fn falls(offsets: &[u16]) -> bool {
@@ -117,7 +117,7 @@ fn rounds(number: usize) -> Tally {
     let mut tally = Tally::new();
     let mut state: u64 = 8;
     let mut round: u16 = 0;
-    while round < ROUNDS {
+    while round < ROUND_COUNT {
         state = leap(state);
         tally = judged(tally, number, round, state);
         round += 1;

@@ -2,8 +2,8 @@
 // a line for each group: how many cases it had, and how many went wrong.
 mod damage;
 mod drawn;
-mod lengths;
 mod refusals;
+mod short_lists;
 mod sizes;
 mod trips;
 mod views;
@@ -12,7 +12,7 @@ mod writing;
 fn main() {
     refusals::run();
     sizes::run();
-    lengths::run();
+    short_lists::run();
     damage::run();
     trips::run();
     views::run();

@@ -4,7 +4,7 @@ use crate::writing::Lengths;
 use crate::writing::refuses;
 use crate::writing::writes;
 use testkit::files::put_words;
-use testkit::tally::Tally;
+use testkit::group::Tally;
 use testkit::words::put;
 
 // Good rows: 4 vertices, 4 edges, a file of 28 bytes. A place past the need holds 4 or 0.
@@ -17,7 +17,7 @@ const FOUR: [u16; 14] = [4, 4, 1, 3, 4, 0, 1, 2, 2, 0, 3, 0, 3, 0];
 
 const FIVE: [u16; 15] = [5, 4, 1, 3, 4, 0, 0, 1, 2, 2, 0, 3, 0, 3, 0];
 
-const ROWS: u16 = 28;
+const CASE_ROWS: u16 = 28;
 
 // The offsets' length, a place and its value; the targets' length, a place and its value; the
 // file's length; the number. Place 7 is no change.
@@ -97,7 +97,7 @@ fn is_right(row: u16) -> bool {
 fn table() -> Tally {
     let mut tally = Tally::new();
     let mut row: u16 = 0;
-    while row < ROWS {
+    while row < CASE_ROWS {
         tally = tally.with(is_right(row));
         row += 1;
     }

@@ -2,7 +2,7 @@
 // need. What is written must be the file that the tests make of the same graph.
 use crate::drawn;
 use crate::writing::needs;
-use testkit::tally::Tally;
+use testkit::group::Tally;
 
 fn is_right(vertices: u16, edges: u16, number: usize) -> bool {
     drawn::is_right(vertices, edges, needs(vertices, edges), number)

@@ -1,6 +1,7 @@
 // There and back: random rows are written and read, files with their records in any order are read
 // and written. Empty rows, parallel edges and edges to oneself come up by themselves.
 use crate::writing;
+use testkit::group::Tally;
 use testkit::random::below;
 use testkit::random::leap;
 use testkit::random::next;
@@ -9,9 +10,8 @@ use testkit::sample::draw;
 use testkit::sample::encode_in_order;
 use testkit::sample::encode_shuffled;
 use testkit::sample::file_length;
-use testkit::tally::Tally;
 
-const ROUNDS: u16 = 200;
+const ROUND_COUNT: u16 = 200;
 
 // Few vertices or some hundreds, 1 at least.
 fn drawn_vertices(round: u16, seed: u64) -> u16 {
@@ -150,7 +150,7 @@ fn rounds() -> Tally {
     let mut tally = Tally::new();
     let mut state: u64 = 6;
     let mut round: u16 = 0;
-    while round < ROUNDS {
+    while round < ROUND_COUNT {
         state = leap(state);
         tally = tally.and(trip(
             drawn_vertices(round, state),

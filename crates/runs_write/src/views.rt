@@ -1,16 +1,16 @@
 // The view of one vertex's edges: every row of random graphs, each condition of number 11, and
 // random lists of any form against a plain check.
+use testkit::group::Tally;
 use testkit::random::below;
 use testkit::random::leap;
 use testkit::random::next;
 use testkit::sample::after;
 use testkit::sample::draw;
-use testkit::tally::Tally;
 use testkit::words::at;
 use testkit::words::at_place;
 use testkit::words::prefix;
 
-const ROUNDS: u16 = 3000;
+const ROUND_COUNT: u16 = 3000;
 
 // Whether the part is what stands in the whole from `start` on.
 fn is_part(part: &[u16], whole: &[u16], start: usize) -> bool {
@@ -143,7 +143,7 @@ fn random_views() -> Tally {
     let mut tally = Tally::new();
     let mut state: u64 = 12;
     let mut round: u16 = 0;
-    while round < ROUNDS {
+    while round < ROUND_COUNT {
         state = leap(state);
         tally = tally.with(random_view(state));
         round += 1;

@@ -8,21 +8,21 @@ use testkit::words::agree;
 use testkit::words::holds;
 
 // What the lists hold before a call, at every place.
-pub const OFFSETS: u16 = 7777;
+pub const OFFSETS_TAG: u16 = 7777;
 
-pub const TARGETS: u16 = 12345;
+pub const TARGETS_TAG: u16 = 12345;
 
-pub const MARKS: u16 = 99;
+pub const MARKS_TAG: u16 = 99;
 
-pub const DISTANCES: u16 = 1;
+pub const DISTANCES_TAG: u16 = 1;
 
-pub const PARENTS: u16 = 2;
+pub const PARENTS_TAG: u16 = 2;
 
-pub const LEFT: u16 = 300;
+pub const LEFT_TAG: u16 = 300;
 
-pub const RIGHT: u16 = 17000;
+pub const RIGHT_TAG: u16 = 17000;
 
-pub const NUMBER: u16 = 5;
+pub const VALUES_TAG: u16 = 5;
 
 // Whether the list holds the value at every place from `from` on.
 fn is_filled(list: &[u16], from: usize, value: u16) -> bool {
@@ -49,26 +49,26 @@ pub fn are_rows(
 ) -> bool {
     let starts = std::num::wrapping_add_usize(n, 1);
     let first = agree(offsets, rows, starts) & agree(targets, row_targets, m) & holds(marks, m, 0);
-    let rest = is_filled(offsets, starts, OFFSETS) & is_filled(targets, m, TARGETS);
-    first & rest & is_filled(marks, m, MARKS)
+    let rest = is_filled(offsets, starts, OFFSETS_TAG) & is_filled(targets, m, TARGETS_TAG);
+    first & rest & is_filled(marks, m, MARKS_TAG)
 }
 
 // Whether distances and parents are as they were from a place on.
 pub fn are_labels_kept(distances: &[u16], parents: &[u16], from: usize) -> bool {
-    is_filled(distances, from, DISTANCES) & is_filled(parents, from, PARENTS)
+    is_filled(distances, from, DISTANCES_TAG) & is_filled(parents, from, PARENTS_TAG)
 }
 
 // Whether the first places of the node lists are 0, and the others as they were.
 pub fn are_nodes_cleared(left: &[u16], right: &[u16], number: &[u16], count: usize) -> bool {
     let first = holds(left, count, 0) & holds(right, count, 0) & holds(number, count, 0);
-    let rest = is_filled(left, count, LEFT) & is_filled(right, count, RIGHT);
-    first & rest & is_filled(number, count, NUMBER)
+    let rest = is_filled(left, count, LEFT_TAG) & is_filled(right, count, RIGHT_TAG);
+    first & rest & is_filled(number, count, VALUES_TAG)
 }
 
 // Whether offsets and targets are as they were, and the marks but for the first `zeros`.
 pub fn are_rows_kept(offsets: &[u16], targets: &[u16], marks: &[u16], zeros: usize) -> bool {
-    let rows = is_filled(offsets, 0, OFFSETS) & is_filled(targets, 0, TARGETS);
-    rows & holds(marks, zeros, 0) & is_filled(marks, zeros, MARKS)
+    let rows = is_filled(offsets, 0, OFFSETS_TAG) & is_filled(targets, 0, TARGETS_TAG);
+    rows & holds(marks, zeros, 0) & is_filled(marks, zeros, MARKS_TAG)
 }
 
 // How many marks are 0 after a refusal: with 5 and 6 the first m.

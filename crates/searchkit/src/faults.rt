@@ -97,7 +97,7 @@ fn lent(combination: u16) -> Lengths {
 }
 
 // The request, with its own faults: the source, the workers, the file's length and the schedule's.
-pub fn request(combination: u16) -> Request {
+pub fn request_of(combination: u16) -> Request {
     Request {
         source: either(has(combination, 32), 4, 0),
         workers: either(has(combination, 64), 9, 2),

@@ -78,7 +78,7 @@ pub fn request_of(plan: Plan, lengths: Lengths) -> Request {
 }
 
 // What the labels are judged by.
-fn view(seen: Seen, plan: Plan) -> View {
+fn view_of(seen: Seen, plan: Plan) -> View {
     View {
         vertices: plan.vertices,
         source: plan.source,
@@ -108,7 +108,7 @@ pub fn judge(
         &mut room,
     );
     let judged = labels::judge(
-        view(seen, plan),
+        view_of(seen, plan),
         distances,
         parents,
         &wanted,

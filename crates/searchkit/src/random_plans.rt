@@ -43,7 +43,7 @@ fn drawn_plan(round: u16, seed: u64) -> Plan {
 }
 
 // The round's plan.
-pub fn plan(round: u16) -> Plan {
+pub fn plan_of(round: u16) -> Plan {
     drawn_plan(round, leap(round as u64 + 1))
 }
 

@@ -34,7 +34,7 @@ fn cell(row: u16, column: u16) -> u16 {
 }
 
 // The plan of a case.
-pub fn plan(row: u16) -> Plan {
+pub fn plan_of(row: u16) -> Plan {
     Plan {
         vertices: cell(row, 0),
         edges: cell(row, 1),

@@ -4,8 +4,8 @@
 // Every read and write of a list is guarded, so that no function here requires anything. Vertices,
 // edges and records are numbers of 16 bits; places in a file and lengths are of type `usize`.
 pub mod files;
+pub mod group;
 pub mod random;
 pub mod reading;
 pub mod sample;
-pub mod tally;
 pub mod words;

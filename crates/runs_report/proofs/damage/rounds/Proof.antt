@@ -21,8 +21,8 @@ loop-holds c = search needs
 leap-requires : tie.Need-leap-requires Inv-loop μ-loop
 leap-requires c κs = search needs
 
-outcome-requires : tie.Need-outcome-requires Inv-loop μ-loop
-outcome-requires c κs = search needs
+outcome-of-requires : tie.Need-outcome-of-requires Inv-loop μ-loop
+outcome-of-requires c κs = search needs
 
 with-requires : tie.Need-with-requires Inv-loop μ-loop
 with-requires c κs = search needs
@@ -54,7 +54,7 @@ rounds-spec =
     new-requires
     loop-holds
     leap-requires
-    outcome-requires
+    outcome-of-requires
     with-requires
     count-requires
     add-round

@@ -1,30 +1,31 @@
-// The lists of a call of the writer one short, at their need and longer, in all combinations, for
-// one graph. The writer reads its sizes off the rows' lengths, so that only the bytes may be longer.
+// Every lent list one short, at its need and longer, in all combinations, for one graph.
 use crate::drawn;
-use crate::writing::Lengths;
-use testkit::tally::Tally;
+use testkit::group::Tally;
+use testkit::reading::Lengths;
+use testkit::sample::file_length;
 use testkit::words::extra;
 
 const VERTICES: u16 = 37;
 
 const EDGES: u16 = 101;
 
-// The lists' lengths: the combination's digits to the base 3 choose them. The file has 482 bytes.
+// The lists' lengths: the combination's digits to the base 3 choose them.
 fn lent(combination: u16) -> Lengths {
     Lengths {
+        file: file_length(VERTICES, EDGES),
         offsets: 37 + extra(combination % 3),
         targets: 100 + extra(combination / 3 % 3),
-        file: 481 + extra(combination / 9 % 3),
+        marks: 100 + extra(combination / 9 % 3),
     }
 }
 
-// 11 where the rows have another length, then 20 where the file is one short.
+// 20 where one of the lists is one short.
 fn expected(combination: u16) -> usize {
-    if combination % 3 != 1 {
-        return 11;
+    if combination % 3 == 0 {
+        return 20;
     }
-    if combination / 3 % 3 != 1 {
-        return 11;
+    if combination / 3 % 3 == 0 {
+        return 20;
     }
     if combination / 9 % 3 == 0 {
         return 20;
@@ -47,5 +48,5 @@ fn combinations() -> Tally {
 }
 
 pub fn run() {
-    combinations().print(b"lengths of the writer's lists");
+    combinations().print(b"lengths of the lists");
 }

@@ -1,5 +1,5 @@
 // What a group counts.
-use testkit::tally::Tally;
+use testkit::group::Tally;
 
 // What a call had to answer, and whether it answered and left that.
 pub struct Outcome {

@@ -13,7 +13,7 @@ const EDGES: u16 = 101;
 const WORKERS: u16 = 8;
 
 // Enough full rounds to finish.
-const LENGTH: u32 = 2700;
+const SCHEDULE_LENGTH: u32 = 2700;
 
 // Each list alone short among lists at their need, and among longer ones; all at their need; all
 // longer; then drawn ones.
@@ -68,13 +68,13 @@ pub fn expected(combination: u16) -> usize {
 }
 
 // The graph and the schedule.
-pub fn plan() -> Plan {
+pub fn one_plan() -> Plan {
     Plan {
         vertices: VERTICES,
         edges: EDGES,
         source: 0,
         workers: WORKERS,
-        length: LENGTH,
+        length: SCHEDULE_LENGTH,
         mixture: 0,
         seed: 20,
     }

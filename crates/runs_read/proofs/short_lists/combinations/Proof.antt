@@ -1,8 +1,8 @@
--- `runs_read::lengths::combinations` is safe and ends. The loop counts up; the measure is how many combinations are left.
+-- `runs_read::short_lists::combinations` is safe and ends. The loop counts up; the measure is how many combinations are left.
 use Prim.Native.Nat.{_≤_, _-_}
 use borrow.Author.Needs.{needs}
-use Rattle.runs_read.proofs.lengths.combinations.Statement.{statement}
-use Rattle.runs_read.proofs.lengths.combinations.Tie as tie
+use Rattle.runs_read.proofs.short_lists.combinations.Statement.{statement}
+use Rattle.runs_read.proofs.short_lists.combinations.Tie as tie
 
 abbrev Inv-loop : tie.InvT-loop
 Inv-loop tally₀ combination₀ tally combination = combination ≤ 27
