@@ -76,7 +76,7 @@ size_t hopmap_write(const uint16_t *offsets, size_t offsets_len,
  *   parents         written: n places, the device before it on a shortest path, or unset; the
  *                   source's parent is the source
  *   left, right,    working room: P * n + 1 places each, left 0
- *   number
+ *   values
  *   answer          written, whatever the number: the number, events used, effective events and the
  *                   last layer d; with another number than 0 and 21 zeros for these three
  * With 21 the schedule is spent and the search is not finished: the lists are as with 0, but only
@@ -93,7 +93,7 @@ size_t hopmap_search(const uint8_t *file, size_t file_len,
                      uint16_t *parents, size_t parents_len,
                      uint16_t *left, size_t left_len,
                      uint16_t *right, size_t right_len,
-                     uint16_t *number, size_t number_len,
+                     uint16_t *values, size_t values_len,
                      uint32_t answer[4]);
 
 /* Checks a finished result: 0 exactly where these distances and parents are right for this file and

@@ -12,7 +12,7 @@ pub const DISTANCES: usize = 3;
 pub const PARENTS: usize = 4;
 pub const LEFT: usize = 5;
 pub const RIGHT: usize = 6;
-pub const NUMBER: usize = 7;
+pub const VALUES: usize = 7;
 /// The writer's file or the pages: the only list of bytes.
 pub const BYTES: usize = 8;
 
@@ -26,7 +26,7 @@ pub const NAMES: [&str; LISTS] = [
     "parents",
     "left",
     "right",
-    "number",
+    "values",
     "bytes",
 ];
 
@@ -75,7 +75,7 @@ impl Lists {
     }
 
     pub fn parts(&mut self) -> Parts<'_> {
-        let [offsets, targets, marks, distances, parents, left, right, number] = &mut self.words;
+        let [offsets, targets, marks, distances, parents, left, right, values] = &mut self.words;
         Parts {
             rows: RowLists {
                 offsets,
@@ -86,7 +86,7 @@ impl Lists {
             nodes: NodeLists {
                 left,
                 right,
-                number,
+                values,
             },
             bytes: &mut self.bytes,
         }

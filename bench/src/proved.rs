@@ -33,7 +33,7 @@ extern "C" {
         parents: *mut u16, parents_len: usize,
         left: *mut u16, left_len: usize,
         right: *mut u16, right_len: usize,
-        number: *mut u16, number_len: usize,
+        values: *mut u16, values_len: usize,
         answer: *mut u32,
     ) -> usize;
 
@@ -111,7 +111,7 @@ fn write(lists: &mut Lists) -> Outcome {
 /// The proved search, called as the plain one is.
 #[rustfmt::skip]
 pub fn search(query: &Query, lists: &mut Lists) -> Outcome {
-    let [offsets, targets, marks, distances, parents, left, right, number] = &mut lists.words;
+    let [offsets, targets, marks, distances, parents, left, right, values] = &mut lists.words;
     let mut answer = [UNANSWERED; 4];
     // SAFETY: each pointer comes with the length of its own list; the answer has the four places.
     let returned = unsafe {
@@ -127,7 +127,7 @@ pub fn search(query: &Query, lists: &mut Lists) -> Outcome {
             parents.as_mut_ptr(), parents.len(),
             left.as_mut_ptr(), left.len(),
             right.as_mut_ptr(), right.len(),
-            number.as_mut_ptr(), number.len(),
+            values.as_mut_ptr(), values.len(),
             answer.as_mut_ptr(),
         )
     };

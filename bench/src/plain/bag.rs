@@ -25,14 +25,14 @@ impl<'a> Pool<'a> {
     pub fn clear(self) {
         self.nodes.left.fill(0);
         self.nodes.right.fill(0);
-        self.nodes.number.fill(0);
+        self.nodes.values.fill(0);
     }
 
     /// A pennant of one node that holds `number`.
     fn single(&mut self, number: u16) -> u16 {
         let node = self.free;
         self.free = self.nodes.left[usize::from(node)];
-        self.nodes.number[usize::from(node)] = number;
+        self.nodes.values[usize::from(node)] = number;
         node
     }
 
@@ -40,7 +40,7 @@ impl<'a> Pool<'a> {
     fn release(&mut self, node: u16) -> u16 {
         self.nodes.left[usize::from(node)] = self.free;
         self.free = node;
-        self.nodes.number[usize::from(node)]
+        self.nodes.values[usize::from(node)]
     }
 
     /// PENNANT-UNION: x stays the root.
@@ -158,11 +158,11 @@ mod tests {
     /// Case J: a split of 23 elements leaves 12 and gives 11, and loses none.
     #[test]
     fn split_of_23() {
-        let (mut left, mut right, mut number) = ([9; 24], [9; 24], [9; 24]);
+        let (mut left, mut right, mut values) = ([9; 24], [9; 24], [9; 24]);
         let mut pool = Pool::new(NodeLists {
             left: &mut left,
             right: &mut right,
-            number: &mut number,
+            values: &mut values,
         });
         let mut first = Bag::default();
         (100..123).for_each(|element| first.insert(element, &mut pool));
@@ -173,6 +173,6 @@ mod tests {
         all.sort_unstable();
         assert!(all.into_iter().eq(100..123));
         pool.clear();
-        assert_eq!((left, right, number), ([0; 24], [0; 24], [0; 24]));
+        assert_eq!((left, right, values), ([0; 24], [0; 24], [0; 24]));
     }
 }

@@ -235,7 +235,7 @@ fn run(
         pool: Pool::new(NodeLists {
             left: &mut nodes.left[..need],
             right: &mut nodes.right[..need],
-            number: &mut nodes.number[..need],
+            values: &mut nodes.values[..need],
         }),
         crew: [Worker::default(); MOST_WORKERS],
         workers: query.workers,
@@ -267,5 +267,5 @@ fn labels_short(labels: &LabelLists, n: usize) -> bool {
 }
 
 fn nodes_short(nodes: &NodeLists, need: usize) -> bool {
-    nodes.left.len() < need || nodes.right.len() < need || nodes.number.len() < need
+    nodes.left.len() < need || nodes.right.len() < need || nodes.values.len() < need
 }

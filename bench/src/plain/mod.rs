@@ -40,5 +40,5 @@ pub struct Labels<'a> {
 pub struct NodeLists<'a> {
     pub left: &'a mut [u16],
     pub right: &'a mut [u16],
-    pub number: &'a mut [u16],
+    pub values: &'a mut [u16],
 }

@@ -93,24 +93,24 @@ pub extern "C" fn hopmap_search(
     parents: &mut [u16],
     left: &mut [u16],
     right: &mut [u16],
-    number: &mut [u16],
+    values: &mut [u16],
     answer: &mut [u32; 4],
 ) -> usize
     ensures { λ _. ⌜
         searchExit (answerIn (now (answer .exit)))
         (search·lentLists (now (offsets .exit)) (now (targets .exit)) (now (marks .exit)) (now (distances .exit))
-        (now (parents .exit)) (now (left .exit)) (now (right .exit)) (now (number .exit)))
+        (now (parents .exit)) (now (left .exit)) (now (right .exit)) (now (values .exit)))
         ≡ outcomeOfSearch (now (file .entry)) source workers (now (schedule .entry))
         (search·lentLists (now (offsets .entry)) (now (targets .entry)) (now (marks .entry)) (now (distances .entry))
-        (now (parents .entry)) (now (left .entry)) (now (right .entry)) (now (number .entry)))
+        (now (parents .entry)) (now (left .entry)) (now (right .entry)) (now (values .entry)))
         ⌝ }
     ensures { λ _. ⌜
         Kept (now (file .entry)) source workers (now (schedule .entry))
         (search·lentLists (now (offsets .entry)) (now (targets .entry)) (now (marks .entry)) (now (distances .entry))
-        (now (parents .entry)) (now (left .entry)) (now (right .entry)) (now (number .entry)))
+        (now (parents .entry)) (now (left .entry)) (now (right .entry)) (now (values .entry)))
         (answerIn (now (answer .exit)))
         (search·lentLists (now (offsets .exit)) (now (targets .exit)) (now (marks .exit)) (now (distances .exit))
-        (now (parents .exit)) (now (left .exit)) (now (right .exit)) (now (number .exit)))
+        (now (parents .exit)) (now (left .exit)) (now (right .exit)) (now (values .exit)))
         ⌝ }
     ensures { λ r. ⌜ r ≡ answerIn (now (answer .exit)) .number ⌝ }
 {
@@ -126,7 +126,7 @@ pub extern "C" fn hopmap_search(
         parents,
         left,
         right,
-        number,
+        values,
     );
     tell_search(found, answer);
     found.number

@@ -151,14 +151,14 @@ module _ (file : List ℕ) (source P : ℕ) (schedule : List ℕ) (lent : Lent) 
                 parents-there = long .parents-there;
                 left-there = long .left-there;
                 right-there = long .right-there;
-                number-there = long .number-there;
+                values-there = long .values-there;
               }
 
           -- a run was played
-          pub search-played : {distances′ parents′ left′ right′ number′ : List ℕ} {r : Answer}
+          pub search-played : {distances′ parents′ left′ right′ values′ : List ℕ} {r : Answer}
               → PlayedOut (play (rowsOf (take (head .vertices + 1) offsets′) (take (head .edges) targets′)) source P schedule) (nodePlaces (head .vertices) P)
-              (lent .distances) (lent .parents) (lent .left) (lent .right) (lent .number) distances′ parents′ left′ right′ number′ r
-              → searchExit r (lentLists offsets′ targets′ marks′ distances′ parents′ left′ right′ number′) ≡ outcomeOfSearch file source P schedule lent
+              (lent .distances) (lent .parents) (lent .left) (lent .right) (lent .number) distances′ parents′ left′ right′ values′ r
+              → searchExit r (lentLists offsets′ targets′ marks′ distances′ parents′ left′ right′ values′) ≡ outcomeOfSearch file source P schedule lent
           unfolding runOf
           search-played out =
               let out′ = rw (rows-graph (told .scanned) walked whole, told .scanned .sized .vertices) at out in
@@ -170,6 +170,6 @@ module _ (file : List ℕ) (source P : ℕ) (schedule : List ℕ) (lent : Lent) 
               (λ i. record {
                 answer = record { number = answered i; used = out′ .told .used i; effective = out′ .told .effective i; layer = out′ .told .layer i };
                 lent = lentLists (starts i) (ends i) (clear i) (out′ .labelled i) (out′ .named i) (out′ .left-clear i)
-                    (out′ .right-clear i) (out′ .number-clear i);
+                    (out′ .right-clear i) (out′ .values-clear i);
               })
               ∙ sym (call-played file source P schedule lent (ap plays decided ∙ run-plays (runOf file source P schedule .state .finished)))

@@ -39,7 +39,7 @@ pub record Long (n m P : ℕ) (lengths : Lengths) : Type 0 where
   pub parents-there : n ≤ lengths .parents
   pub left-there : nodePlaces n P ≤ lengths .left
   pub right-there : nodePlaces n P ≤ lengths .right
-  pub number-there : nodePlaces n P ≤ lengths .number
+  pub values-there : nodePlaces n P ≤ lengths .number
 
 -- no list is short
 long-lists : (n m P : ℕ) (lengths : Lengths) → lengthsShort n m P lengths ≡ false → Long n m P lengths
@@ -64,7 +64,7 @@ long-lists n m P lengths h =
       parents-there = ltb-false (lengths .parents) n (b .1);
       left-there = ltb-false (lengths .left) (nodePlaces n P) (c .1);
       right-there = ltb-false (lengths .right) (nodePlaces n P) (d .1);
-      number-there = ltb-false (lengths .number) (nodePlaces n P) (e .1);
+      values-there = ltb-false (lengths .number) (nodePlaces n P) (e .1);
     }
 
 -- The answer of these tests.

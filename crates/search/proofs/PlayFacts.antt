@@ -14,17 +14,17 @@ use Rattle.engine.specs.declared.Answer.{Answer}
 use Rattle.engine.specs.Runs.{Runnable, Ran}
 use Rattle.search.specs.Played.{Playable, PlayedOut}
 
-module _ {n m source P : ℕ} {schedule offsets targets distances parents left right number : List ℕ}
-    (p : Playable n m source P schedule offsets targets distances parents left right number) where
+module _ {n m source P : ℕ} {schedule offsets targets distances parents left right values : List ℕ}
+    (p : Playable n m source P schedule offsets targets distances parents left right values) where
   -- what a run takes for granted of the parts
   pub play-runnable : Runnable source P schedule (take (n + 1) offsets) (take m targets) (take n distances) (take n parents) (take (nodePlaces n P) left)
-      (take (nodePlaces n P) right) (take (nodePlaces n P) number)
+      (take (nodePlaces n P) right) (take (nodePlaces n P) values)
   play-runnable =
       let some-distances = length-take-le n distances (p .distances-there) in
       let some-parents = length-take-le n parents (p .parents-there) in
       let some-left = length-take-le (nodePlaces n P) left (p .left-there) in
       let some-right = length-take-le (nodePlaces n P) right (p .right-there) in
-      let some-number = length-take-le (nodePlaces n P) number (p .number-there) in
+      let some-values = length-take-le (nodePlaces n P) values (p .values-there) in
       record {
         rows = rw some-distances (p .rows);
         accepted = p .accepted;
@@ -41,20 +41,20 @@ module _ {n m source P : ℕ} {schedule offsets targets distances parents left r
       }
 
   -- the whole lists after the run and the clearing
-  pub play-done : (left′ right′ number′ : List ℕ) {answer : Answer} {distances′ parents′ left″ right″ number″ : List ℕ}
+  pub play-done : (left′ right′ values′ : List ℕ) {answer : Answer} {distances′ parents′ left″ right″ values″ : List ℕ}
       → Ran (play (rowsOf (take (n + 1) offsets) (take m targets)) source P schedule) distances′ parents′ answer
       → length distances′ ≡ length (take n distances) → length parents′ ≡ length (take n parents) → length left′ ≡ length (take (nodePlaces n P) left)
-      → length right′ ≡ length (take (nodePlaces n P) right) → length number′ ≡ length (take (nodePlaces n P) number)
+      → length right′ ≡ length (take (nodePlaces n P) right) → length values′ ≡ length (take (nodePlaces n P) values)
       → left″ ≡ overlay (replicate (nodePlaces n P) 0) (left′ ++ drop (nodePlaces n P) left)
       → right″ ≡ overlay (replicate (nodePlaces n P) 0) (right′ ++ drop (nodePlaces n P) right)
-      → number″ ≡ overlay (replicate (nodePlaces n P) 0) (number′ ++ drop (nodePlaces n P) number)
+      → values″ ≡ overlay (replicate (nodePlaces n P) 0) (values′ ++ drop (nodePlaces n P) values)
       → PlayedOut (play (rowsOf (take (n + 1) offsets) (take m targets)) source P schedule) (nodePlaces n P) distances parents left right number
-      (distances′ ++ drop n distances) (parents′ ++ drop n parents) left″ right″ number″ answer
-  play-done left′ right′ number′ ran d q l r k clear-left clear-right clear-number = record {
+      (distances′ ++ drop n distances) (parents′ ++ drop n parents) left″ right″ values″ answer
+  play-done left′ right′ values′ ran d q l r k clear-left clear-right clear-values = record {
     told = ran .told;
     labelled = part-laid n distances (p .distances-there) d (ran .distances);
     named = part-laid n parents (p .parents-there) q (ran .parents);
     left-clear = part-cleared (nodePlaces n P) left left′ (p .left-there) l clear-left;
     right-clear = part-cleared (nodePlaces n P) right right′ (p .right-there) r clear-right;
-    number-clear = part-cleared (nodePlaces n P) number number′ (p .number-there) k clear-number;
+    values-clear = part-cleared (nodePlaces n P) values values′ (p .values-there) k clear-values;
   }

@@ -20,7 +20,7 @@ abbrev pub refusedWith : ℕ → Answer
 refusedWith number = answerOf number 0 0 0
 
 -- `play`: what it takes for granted: of the first places of longer lists, what `run` does of whole ones
-pub record Playable (n m source P : ℕ) (schedule offsets targets distances parents left right number : List ℕ) : Type 0 where
+pub record Playable (n m source P : ℕ) (schedule offsets targets distances parents left right values : List ℕ) : Type 0 where
   pub rows : GraphRows (take (n + 1) offsets) (take m targets) n
   pub accepted : Accepted (rowsOf (take (n + 1) offsets) (take m targets)) source P schedule
   pub few-events : length schedule ≤ maxEvents
@@ -30,14 +30,14 @@ pub record Playable (n m source P : ℕ) (schedule offsets targets distances par
   pub parents-there : n ≤ length parents
   pub left-there : nodePlaces n P ≤ length left
   pub right-there : nodePlaces n P ≤ length right
-  pub number-there : nodePlaces n P ≤ length number
+  pub values-there : nodePlaces n P ≤ length values
 
 -- what `play` promises: the labels in the first places, the nodes' first places 0, the others as they were
-pub record PlayedOut (r : Run) (places : ℕ) (distances parents left right number distances′ parents′ left′ right′ number′ : List ℕ)
+pub record PlayedOut (r : Run) (places : ℕ) (distances parents left right values distances′ parents′ left′ right′ values′ : List ℕ)
     (answer : Answer) : Type 0 where
   pub told : Told r answer
   pub labelled : distances′ ≡ overlay (map wordOf (r .state .labels .distances)) distances
   pub named : parents′ ≡ overlay (map wordOf (r .state .labels .parents)) parents
   pub left-clear : left′ ≡ overlay (replicate places 0) left
   pub right-clear : right′ ≡ overlay (replicate places 0) right
-  pub number-clear : number′ ≡ overlay (replicate places 0) number
+  pub values-clear : values′ ≡ overlay (replicate places 0) values

@@ -21,7 +21,7 @@ use Rattle.engine.specs.declared.Answer.{Answer}
 
 -- the lists that the caller lends
 abbrev pub lentLists : List ℕ → List ℕ → List ℕ → List ℕ → List ℕ → List ℕ → List ℕ → List ℕ → call.Lent
-lentLists offsets targets marks distances parents left right number = record {
+lentLists offsets targets marks distances parents left right values = record {
   offsets = offsets;
   targets = targets;
   marks = marks;
@@ -29,7 +29,7 @@ lentLists offsets targets marks distances parents left right number = record {
   parents = parents;
   left = left;
   right = right;
-  number = number;
+  number = values;
 }
 
 -- what the call answered, and the lists at exit

@@ -44,7 +44,7 @@ fn lengths_short(n: usize, m: usize, workers: usize, lengths: Lengths) -> bool
     if lengths.left < places || lengths.right < places {
         return true;
     }
-    lengths.number < places
+    lengths.values < places
 }
 
 // 1 (under 4), 2, 1 (length), 4, 3, 7, 8, 9, 20; with 0, n and m.
@@ -91,14 +91,14 @@ fn play(
     parents: &mut [u16],
     left: &mut [u16],
     right: &mut [u16],
-    number: &mut [u16],
+    values: &mut [u16],
 ) -> Answer
-    requires { ⌜ Playable n m source workers (now schedule) (now offsets) (now targets) (now distances) (now parents) (now left) (now right) (now number) ⌝ }
+    requires { ⌜ Playable n m source workers (now schedule) (now offsets) (now targets) (now distances) (now parents) (now left) (now right) (now values) ⌝ }
     ensures { λ r. ⌜
         PlayedOut (model.play (rowsOf (take (n + 1) (now (offsets .entry))) (take m (now (targets .entry)))) source workers (now (schedule .entry)))
         (nodePlaces n workers)
-        (now (distances .entry)) (now (parents .entry)) (now (left .entry)) (now (right .entry)) (now (number .entry))
-        (now (distances .exit)) (now (parents .exit)) (now (left .exit)) (now (right .exit)) (now (number .exit))
+        (now (distances .entry)) (now (parents .entry)) (now (left .entry)) (now (right .entry)) (now (values .entry))
+        (now (distances .exit)) (now (parents .exit)) (now (left .exit)) (now (right .exit)) (now (values .exit))
         r
         ⌝ }
 {
@@ -114,14 +114,14 @@ fn play(
         &mut parents[..n],
         &mut left[..places],
         &mut right[..places],
-        &mut number[..places],
+        &mut values[..places],
     );
-    bag::sweep(left, right, number, places);
+    bag::sweep(left, right, values, places);
     answer
 }
 
 // The search. Offsets, targets and marks are as the reader's; distances and parents get the labels;
-// left, right and number are working room.
+// left, right and values are working room.
 pub fn search(
     file: &[u8],
     source: usize,
@@ -134,22 +134,22 @@ pub fn search(
     parents: &mut [u16],
     left: &mut [u16],
     right: &mut [u16],
-    number: &mut [u16],
+    values: &mut [u16],
 ) -> Answer
     ensures { λ r. ⌜
         searchExit r (lentLists (now (offsets .exit)) (now (targets .exit)) (now (marks .exit)) (now (distances .exit))
-        (now (parents .exit)) (now (left .exit)) (now (right .exit)) (now (number .exit)))
+        (now (parents .exit)) (now (left .exit)) (now (right .exit)) (now (values .exit)))
         ≡ outcomeOfSearch (now (file .entry)) source workers (now (schedule .entry))
         (lentLists (now (offsets .entry)) (now (targets .entry)) (now (marks .entry)) (now (distances .entry))
-        (now (parents .entry)) (now (left .entry)) (now (right .entry)) (now (number .entry)))
+        (now (parents .entry)) (now (left .entry)) (now (right .entry)) (now (values .entry)))
         ⌝ }
     ensures { λ r. ⌜
         Kept (now (file .entry)) source workers (now (schedule .entry))
         (lentLists (now (offsets .entry)) (now (targets .entry)) (now (marks .entry)) (now (distances .entry))
-        (now (parents .entry)) (now (left .entry)) (now (right .entry)) (now (number .entry)))
+        (now (parents .entry)) (now (left .entry)) (now (right .entry)) (now (values .entry)))
         r
         (lentLists (now (offsets .exit)) (now (targets .exit)) (now (marks .exit)) (now (distances .exit))
-        (now (parents .exit)) (now (left .exit)) (now (right .exit)) (now (number .exit)))
+        (now (parents .exit)) (now (left .exit)) (now (right .exit)) (now (values .exit)))
         ⌝ }
 {
     let lengths = Lengths {
@@ -160,7 +160,7 @@ pub fn search(
         parents: parents.len(),
         left: left.len(),
         right: right.len(),
-        number: number.len(),
+        values: values.len(),
     };
     let judged = judge(file, source, workers, schedule, lengths);
     if judged.number != numbers::SUCCESS {
@@ -184,6 +184,6 @@ pub fn search(
         parents,
         left,
         right,
-        number,
+        values,
     )
 }

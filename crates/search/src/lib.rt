@@ -14,5 +14,5 @@ pub struct Lengths {
     pub parents: usize,
     pub left: usize,
     pub right: usize,
-    pub number: usize,
+    pub values: usize,
 }

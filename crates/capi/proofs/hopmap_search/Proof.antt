@@ -21,7 +21,7 @@ entry c =
 abbrev lentOf : tie.Start → Lent
 lentOf s =
     let a = s .args in
-    lentLists (a .offsets .now) (a .targets .now) (a .marks .now) (a .distances .now) (a .parents .now) (a .left .now) (a .right .now) (a .number .now)
+    lentLists (a .offsets .now) (a .targets .now) (a .marks .now) (a .distances .now) (a .parents .now) (a .left .now) (a .right .now) (a .values .now)
 
 search-requires : tie.Need-search-requires
 search-requires c κs = search needs

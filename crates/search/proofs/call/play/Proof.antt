@@ -67,7 +67,7 @@ slice-relend-prefix-run-5 c = search needs
 slice-aggregate-run-7 : tie.Need-slice-aggregate-run-7
 slice-aggregate-run-7 c =
     let s = c .before .before .before .before .before .before .before .before .before .before .before .before .before .before .before in
-    part-length (nodePlaces (s .args .n) (s .args .workers)) (s .args .number .now) (s .pre .number-there)
+    part-length (nodePlaces (s .args .n) (s .args .workers)) (s .args .values .now) (s .pre .values-there)
 
 run-requires : tie.Need-run-requires
 run-requires c κs =

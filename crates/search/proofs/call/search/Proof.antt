@@ -13,7 +13,7 @@ use Rattle.search.proofs.call.search.Tie as tie
 abbrev lentOf : tie.Start → Lent
 lentOf s =
     let a = s .args in
-    lentLists (a .offsets .now) (a .targets .now) (a .marks .now) (a .distances .now) (a .parents .now) (a .left .now) (a .right .now) (a .number .now)
+    lentLists (a .offsets .now) (a .targets .now) (a .marks .now) (a .distances .now) (a .parents .now) (a .left .now) (a .right .now) (a .values .now)
 
 judge-requires : tie.Need-judge-requires
 judge-requires c κs = search needs
