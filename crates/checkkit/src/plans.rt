@@ -75,7 +75,7 @@ pub fn lent(plan: Plan, combination: u16) -> Lengths {
         parents: length(need.parents, combination / 81 % 3),
         left: 0,
         right: 0,
-        number: 0,
+        values: 0,
     }
 }
 

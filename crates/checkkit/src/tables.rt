@@ -177,7 +177,7 @@ fn lent(short: u16) -> Lengths {
         parents: length(need.parents, 4, short),
         left: 0,
         right: 0,
-        number: 0,
+        values: 0,
     }
 }
 

@@ -25,7 +25,7 @@ fn search_at(
     parents: &mut [u16],
     left: &mut [u16],
     right: &mut [u16],
-    number: &mut [u16],
+    values: &mut [u16],
 ) -> Answer {
     let lengths = request.lengths;
     let f = files::prefix(file, request.file);
@@ -37,7 +37,7 @@ fn search_at(
     let p = prefix(parents, lengths.parents);
     let l = prefix(left, lengths.left);
     let r = prefix(right, lengths.right);
-    let x = prefix(number, lengths.number);
+    let x = prefix(values, lengths.values);
     search::search(
         &file[..f],
         request.source as usize,
@@ -50,7 +50,7 @@ fn search_at(
         &mut parents[..p],
         &mut left[..l],
         &mut right[..r],
-        &mut number[..x],
+        &mut values[..x],
     )
 }
 
@@ -79,7 +79,7 @@ pub fn call(
     parents: &mut [u16],
     left: &mut [u16],
     right: &mut [u16],
-    number: &mut [u16],
+    values: &mut [u16],
 ) -> Outcome {
     let seen = seen_of(search_at(
         file,
@@ -92,12 +92,12 @@ pub fn call(
         parents,
         left,
         right,
-        number,
+        values,
     ));
     let same = is_left(seen, request, offsets, targets, marks, rows, row_targets);
     let labels = are_labels_kept(distances, parents, labelled(seen.number, request.vertices));
     let count = used_nodes(seen.number, request.vertices, request.workers);
-    let nodes = are_nodes_cleared(left, right, number, count);
+    let nodes = are_nodes_cleared(left, right, values, count);
     Outcome {
         seen,
         right: same & labels & nodes,

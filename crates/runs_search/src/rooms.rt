@@ -25,7 +25,7 @@ pub fn large(
     let mut marks = [MARKS_TAG; 32773];
     let mut left = [LEFT_TAG; 32774];
     let mut right = [RIGHT_TAG; 32774];
-    let mut number = [VALUES_TAG; 32774];
+    let mut values = [VALUES_TAG; 32774];
     call(
         file,
         schedule,
@@ -39,7 +39,7 @@ pub fn large(
         parents,
         &mut left,
         &mut right,
-        &mut number,
+        &mut values,
     )
 }
 
@@ -58,7 +58,7 @@ pub fn small(
     let mut marks = [MARKS_TAG; 118];
     let mut left = [LEFT_TAG; 370];
     let mut right = [RIGHT_TAG; 370];
-    let mut number = [VALUES_TAG; 370];
+    let mut values = [VALUES_TAG; 370];
     call(
         file,
         schedule,
@@ -72,6 +72,6 @@ pub fn small(
         parents,
         &mut left,
         &mut right,
-        &mut number,
+        &mut values,
     )
 }

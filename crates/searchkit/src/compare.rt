@@ -59,10 +59,10 @@ pub fn are_labels_kept(distances: &[u16], parents: &[u16], from: usize) -> bool 
 }
 
 // Whether the first places of the node lists are 0, and the others as they were.
-pub fn are_nodes_cleared(left: &[u16], right: &[u16], number: &[u16], count: usize) -> bool {
-    let first = holds(left, count, 0) & holds(right, count, 0) & holds(number, count, 0);
+pub fn are_nodes_cleared(left: &[u16], right: &[u16], values: &[u16], count: usize) -> bool {
+    let first = holds(left, count, 0) & holds(right, count, 0) & holds(values, count, 0);
     let rest = is_filled(left, count, LEFT_TAG) & is_filled(right, count, RIGHT_TAG);
-    first & rest & is_filled(number, count, VALUES_TAG)
+    first & rest & is_filled(values, count, VALUES_TAG)
 }
 
 // Whether offsets and targets are as they were, and the marks but for the first `zeros`.

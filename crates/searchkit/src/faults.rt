@@ -92,7 +92,7 @@ fn lent(combination: u16) -> Lengths {
         parents: need.parents,
         left: need.left,
         right: need.right,
-        number: either(has(combination, 256), 8, 9) as usize,
+        values: either(has(combination, 256), 8, 9) as usize,
     }
 }
 

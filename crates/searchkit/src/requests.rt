@@ -10,7 +10,7 @@ pub struct Lengths {
     pub parents: usize,
     pub left: usize,
     pub right: usize,
-    pub number: usize,
+    pub values: usize,
 }
 
 // What is asked of a call: the source, the workers, how much is lent of the file, the schedule and
@@ -38,7 +38,7 @@ pub fn needs(vertices: u16, edges: u16, workers: u16, more: u16) -> Lengths {
         parents: labels,
         left: nodes,
         right: nodes,
-        number: nodes,
+        values: nodes,
     }
 }
 

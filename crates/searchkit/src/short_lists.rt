@@ -50,7 +50,7 @@ pub fn lent(combination: u16) -> Lengths {
         parents: length(need.parents, combination, 4),
         left: length(need.left, combination, 5),
         right: length(need.right, combination, 6),
-        number: length(need.number, combination, 7),
+        values: length(need.values, combination, 7),
     }
 }
 

@@ -158,7 +158,7 @@ same-length-7 : tie.Need-same-length-7
 same-length-7 c = omega (arith, c .before .before .before .right .given)
 
 same-length-8 : tie.Need-same-length-8
-same-length-8 c = omega (arith, c .before .number .given)
+same-length-8 c = omega (arith, c .before .values .given)
 
 returns : tie.Need-returns
 returns c = search needs
