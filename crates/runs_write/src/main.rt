@@ -2,6 +2,7 @@
 // a line for each group: how many cases it had, and how many went wrong.
 mod damage;
 mod drawn;
+mod large_views;
 mod refusals;
 mod short_lists;
 mod sizes;
@@ -16,4 +17,5 @@ fn main() {
     damage::run();
     trips::run();
     views::run();
+    large_views::run();
 }

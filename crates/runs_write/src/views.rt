@@ -25,7 +25,7 @@ fn is_part(part: &[u16], whole: &[u16], start: usize) -> bool {
 }
 
 // Whether the view gives the part from `start` to `end`, and the number 0.
-fn gives(offsets: &[u16], targets: &[u16], vertex: usize, start: usize, end: usize) -> bool {
+pub fn gives(offsets: &[u16], targets: &[u16], vertex: usize, start: usize, end: usize) -> bool {
     let part = view::links(offsets, targets, vertex);
     let number = view::links_number(offsets, targets, vertex);
     let length = std::num::wrapping_sub_usize(end, start);
@@ -33,7 +33,7 @@ fn gives(offsets: &[u16], targets: &[u16], vertex: usize, start: usize, end: usi
 }
 
 // Whether the view gives an empty part, and the number 11.
-fn is_out(offsets: &[u16], targets: &[u16], vertex: usize) -> bool {
+pub fn is_out(offsets: &[u16], targets: &[u16], vertex: usize) -> bool {
     let part = view::links(offsets, targets, vertex);
     let number = view::links_number(offsets, targets, vertex);
     (number == 11) & (part.len() == 0)
