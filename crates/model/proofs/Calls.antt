@@ -152,7 +152,7 @@ module _ (file : List ℕ) (source P : ℕ) (schedule : List ℕ) (lent : Lent) 
           parents = overlay (map wordOf (r .state .labels .parents)) (lent .parents);
           left = overlay nodes (lent .left);
           right = overlay nodes (lent .right);
-          number = overlay nodes (lent .number);
+          values = overlay nodes (lent .values);
         };
       }
   unfolding outcomeOfSearch answerBy lentAfter sweepsMarks runOf
@@ -169,7 +169,7 @@ module _ (file : List ℕ) (source P : ℕ) (schedule : List ℕ) (lent : Lent) 
       parents = lent .parents;
       left = lent .left;
       right = lent .right;
-      number = lent .number;
+      values = lent .values;
     };
   }
   unfolding outcomeOfSearch answerBy lentAfter

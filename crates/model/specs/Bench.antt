@@ -22,7 +22,7 @@ pub data Expected : Type 0 where
 unfoldable pub lentFor : ℕ → Lent
 lentFor places =
     let nine : List ℕ = replicate 9 7 in
-    record { offsets = nine; targets = nine; marks = nine; distances = replicate places 7; parents = replicate places 7; left = nine; right = nine; number = nine }
+    record { offsets = nine; targets = nine; marks = nine; distances = replicate places 7; parents = replicate places 7; left = nine; right = nine; values = nine }
 
 -- what a search answers, and the distances and parents at exit
 unfoldable pub answersOf : Outcome → Expected

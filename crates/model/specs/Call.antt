@@ -24,7 +24,7 @@ pub record Lent : Type 0 where
   pub parents : List ℕ
   pub left : List ℕ
   pub right : List ℕ
-  pub number : List ℕ
+  pub values : List ℕ
 
 -- "The run's answer: number, events used, effective events, d."
 pub record Answer : Type 0 where
@@ -46,7 +46,7 @@ pub record Lengths : Type 0 where
   pub parents : ℕ
   pub left : ℕ
   pub right : ℕ
-  pub number : ℕ
+  pub values : ℕ
 
 -- of these lists
 abbrev pub lengthsOf : Lent → Lengths
@@ -58,7 +58,7 @@ lengthsOf lent = record {
   parents = length (lent .parents);
   left = length (lent .left);
   right = length (lent .right);
-  number = length (lent .number);
+  values = length (lent .values);
 }
 
 -- "20: a lent list is shorter than its need": "offsets n + 1, targets and marks m, distances and parents n, three node lists P × n + 1 each"
@@ -69,7 +69,7 @@ lengthsShort n m P lengths =
     || ltb (lengths .parents) n
     || ltb (lengths .left) (nodePlaces n P)
     || ltb (lengths .right) (nodePlaces n P)
-    || ltb (lengths .number) (nodePlaces n P)
+    || ltb (lengths .values) (nodePlaces n P)
 
 -- the run of the file's graph
 unfoldable pub runOf : List ℕ → ℕ → ℕ → List ℕ → Run
@@ -128,7 +128,7 @@ lentAfter number r file P lent =
       parents = rewritten (map wordOf (r .state .labels .parents)) (lent .parents);
       left = rewritten nodes (lent .left);
       right = rewritten nodes (lent .right);
-      number = rewritten nodes (lent .number);
+      values = rewritten nodes (lent .values);
     }
 
 -- what a call answers, and the lists at exit

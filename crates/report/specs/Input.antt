@@ -72,7 +72,7 @@ programLists = record {
   parents = replicate programVertices 0;
   left = replicate programNodes 0;
   right = replicate programNodes 0;
-  number = replicate programNodes 0;
+  values = replicate programNodes 0;
 }
 
 -- the longest input that can be accepted: three words, the largest sheet, the largest file

@@ -34,7 +34,7 @@ fn search_and_print(input: &[u8], output: &mut [u8]) -> usize
     let mut parents = [0u16; 512];
     let mut left = [0u16; 4097];
     let mut right = [0u16; 4097];
-    let mut number = [0u16; 4097];
+    let mut values = [0u16; 4097];
     let answer = search(
         file,
         word(input, 0),
@@ -47,7 +47,7 @@ fn search_and_print(input: &[u8], output: &mut [u8]) -> usize
         &mut parents,
         &mut left,
         &mut right,
-        &mut number,
+        &mut values,
     );
     let next = put_first_line(
         output,

@@ -26,7 +26,7 @@ use Rattle.search.specs.Input.{earlyAnswer}
 -- the first of the six tests that holds decides
 pub short-by : (n m P : ℕ) (lengths : Lengths) {a b c d e f : Bool} → rowsShort n m (lengths .offsets) (lengths .targets) (lengths .marks) ≡ a
     → ltb (lengths .distances) n ≡ b → ltb (lengths .parents) n ≡ c → ltb (lengths .left) (nodePlaces n P) ≡ d
-    → ltb (lengths .right) (nodePlaces n P) ≡ e → ltb (lengths .number) (nodePlaces n P) ≡ f → (a || b || c || d || e || f) ≡ lengthsShort n m P lengths
+    → ltb (lengths .right) (nodePlaces n P) ≡ e → ltb (lengths .values) (nodePlaces n P) ≡ f → (a || b || c || d || e || f) ≡ lengthsShort n m P lengths
 unfolding lengthsShort
 short-by n m P lengths rows far near left right last = rw (rows, far, near, left, right, last)
 
@@ -39,7 +39,7 @@ pub record Long (n m P : ℕ) (lengths : Lengths) : Type 0 where
   pub parents-there : n ≤ lengths .parents
   pub left-there : nodePlaces n P ≤ lengths .left
   pub right-there : nodePlaces n P ≤ lengths .right
-  pub values-there : nodePlaces n P ≤ lengths .number
+  pub values-there : nodePlaces n P ≤ lengths .values
 
 -- no list is short
 long-lists : (n m P : ℕ) (lengths : Lengths) → lengthsShort n m P lengths ≡ false → Long n m P lengths
@@ -50,7 +50,7 @@ long-lists n m P lengths h =
     let near = ltb (lengths .parents) n in
     let left = ltb (lengths .left) (nodePlaces n P) in
     let right = ltb (lengths .right) (nodePlaces n P) in
-    let e = or-none (rows || far || near || left || right) (ltb (lengths .number) (nodePlaces n P)) h in
+    let e = or-none (rows || far || near || left || right) (ltb (lengths .values) (nodePlaces n P)) h in
     let d = or-none (rows || far || near || left) right (e .0) in
     let c = or-none (rows || far || near) left (d .0) in
     let b = or-none (rows || far) near (c .0) in
@@ -64,7 +64,7 @@ long-lists n m P lengths h =
       parents-there = ltb-false (lengths .parents) n (b .1);
       left-there = ltb-false (lengths .left) (nodePlaces n P) (c .1);
       right-there = ltb-false (lengths .right) (nodePlaces n P) (d .1);
-      values-there = ltb-false (lengths .number) (nodePlaces n P) (e .1);
+      values-there = ltb-false (lengths .values) (nodePlaces n P) (e .1);
     }
 
 -- The answer of these tests.

@@ -48,7 +48,7 @@ module _ {n m source P : ℕ} {schedule offsets targets distances parents left r
       → left″ ≡ overlay (replicate (nodePlaces n P) 0) (left′ ++ drop (nodePlaces n P) left)
       → right″ ≡ overlay (replicate (nodePlaces n P) 0) (right′ ++ drop (nodePlaces n P) right)
       → values″ ≡ overlay (replicate (nodePlaces n P) 0) (values′ ++ drop (nodePlaces n P) values)
-      → PlayedOut (play (rowsOf (take (n + 1) offsets) (take m targets)) source P schedule) (nodePlaces n P) distances parents left right number
+      → PlayedOut (play (rowsOf (take (n + 1) offsets) (take m targets)) source P schedule) (nodePlaces n P) distances parents left right values
       (distances′ ++ drop n distances) (parents′ ++ drop n parents) left″ right″ values″ answer
   play-done left′ right′ values′ ran d q l r k clear-left clear-right clear-values = record {
     told = ran .told;

@@ -18,7 +18,7 @@ lengthsIn x = record {
   parents = x .parents;
   left = x .left;
   right = x .right;
-  number = x .values;
+  values = x .values;
 }
 
 -- the number of the tests before the chains, with n and m beside 0

@@ -29,7 +29,7 @@ lentLists offsets targets marks distances parents left right values = record {
   parents = parents;
   left = left;
   right = right;
-  number = values;
+  values = values;
 }
 
 -- what the call answered, and the lists at exit
