@@ -1,5 +1,6 @@
 -- Two workers' exchange in a run: what it takes for granted holds, and after it the engine is where the model is, whether its condition was met or not.
 use mathlib.Core.Path.{_≡_, refl, sym, ap, ap₂, _∙_}
+use mathlib.Core.Bool.{Bool, true, false, cond}
 use mathlib.Core.List.{List, [], _∷_}
 use mathlib.Core.Option.{Option, none, some}
 use Prim.Native.Nat.{ℕ, _+_, _<_}
@@ -22,7 +23,7 @@ use Rattle.workers.specs.Steps.{splitRule, uniteRule, orElse, Exchanged}
 use Rattle.workers.proofs.PairFacts.{putInto, split-act, unite-act}
 use Rattle.workers.proofs.BagsFacts.{bagsOf, inputs-pooled, outputs-pooled, inputs-after, outputs-after}
 use Rattle.engine.proofs.PlayingFacts.{Given, graph, crew, Going, Turn, now-state, enough, even, held-inputs, held-outputs, shown-phases}
-use Rattle.engine.proofs.PlayingFacts.{input-shown, output-shown, staffed, play-on}
+use Rattle.engine.proofs.PlayingFacts.{input-shown, output-shown, staffed, play-on, unmet-on}
 
 -- a rule for two bags of a list, and the same for the state: where the rule has nothing, both bags are put back
 module _ (s : model.State) (bags : List Bag) (w v : ℕ) (workers : List Bag → List model.Worker) (is : s .workers ≡ workers bags) where
@@ -46,40 +47,56 @@ some-put : {A B : Type 0} (into : A → B) (o : Option A) → someOne (putInto i
 some-put into none = refl
 some-put into (some x) = refl
 
+-- none is there
+none-put : {A : Type 0} (o : Option A) → 0 ≡ someOne o → o ≡ none
+none-put none same = refl
+none-put (some x) same = absurd (omega arith)
+
 module _ {g : Given} {distances parents left right values : List ℕ} {inputs outputs : List declared.Bag} {phases : List Phase}
     {busy used effective layer : ℕ} {e : Event} (turn : Turn g distances parents left right values inputs outputs phases busy used effective layer e) where
   -- the state
   abbrev state : model.State
   state = now-state (turn .going)
 
-  -- an exchange by the rule, if the table goes by it: the run goes on
-  exchange-on : (bags : List Bag) (workers : List Bag → List model.Worker) (is : crew g left right values inputs outputs phases ≡ workers bags) (w v : ℕ)
-      (rule : Option (Bag × Bag)) → act (graph g) state e ≡ putInto (λ (p : Bag × Bag). replaceWorkers state (workers (set (set bags v (p .1)) w (p .0)))) rule
-      → {left′ right′ : List ℕ} {inputs′ outputs′ : List declared.Bag} {first second : Bag} {met : ℕ}
-      → met ≡ someOne rule → _≡_ {A = Bag × Bag} (first, second) (orElse rule (getD bags w emptyBag, getD bags v emptyBag))
-      → crew g left′ right′ values inputs′ outputs′ phases ≡ workers (set (set bags v second) w first)
-      → Moved left right (bagsOf (g .workers) inputs outputs) left′ right′ (bagsOf (g .workers) inputs′ outputs′)
-      → length inputs′ ≡ length inputs → length outputs′ ≡ length outputs
-      → Going g distances parents left′ right′ values inputs′ outputs′ phases busy (used + 1) (effective + met) layer
-  unfolding stateOf
-  exchange-on bags workers is w v rule by-rule counted made crew′ moved same-inputs same-outputs =
-      let now = turn .going in
-      play-on turn
-      (record {
-        distances-long = now .long .distances-long;
-        parents-long = now .long .parents-long;
-        left-long = moved .left-length ∙ now .long .left-long;
-        right-long = moved .right-length ∙ now .long .right-long;
-        values-long = now .long .values-long;
-        inputs-long = same-inputs ∙ now .long .inputs-long;
-        outputs-long = same-outputs ∙ now .long .outputs-long;
-        phases-long = now .long .phases-long;
-      })
-      moved (now .in-rows) (now .manned)
-      (counted ∙ sym (ap someOne by-rule ∙ some-put (putBoth state bags w v workers is) rule))
-      (ap (replaceWorkers state) crew′
-      ∙ put-both state bags w v workers is rule made
-      ∙ sym (ap (λ (o : Option model.State). orElse o state) by-rule))
+  -- by a rule for two bags that the table goes by
+  module _ (bags : List Bag) (workers : List Bag → List model.Worker) (is : crew g left right values inputs outputs phases ≡ workers bags) (w v : ℕ)
+      (rule : Option (Bag × Bag))
+      (by-rule : act (graph g) state e ≡ putInto (λ (p : Bag × Bag). replaceWorkers state (workers (set (set bags v (p .1)) w (p .0)))) rule) where
+    -- the rule has two bags: the run goes on with them
+    exchange-on : 1 ≡ someOne rule → {left′ right′ : List ℕ} {inputs′ outputs′ : List declared.Bag} {first second : Bag}
+        → _≡_ {A = Bag × Bag} (first, second) (orElse rule (getD bags w emptyBag, getD bags v emptyBag))
+        → crew g left′ right′ values inputs′ outputs′ phases ≡ workers (set (set bags v second) w first)
+        → Moved left right (bagsOf (g .workers) inputs outputs) left′ right′ (bagsOf (g .workers) inputs′ outputs′)
+        → length inputs′ ≡ length inputs → length outputs′ ≡ length outputs
+        → Going g distances parents left′ right′ values inputs′ outputs′ phases busy (used + 1) (effective + 1) layer
+    unfolding stateOf
+    exchange-on counted made crew′ moved same-inputs same-outputs =
+        let now = turn .going in
+        play-on turn
+        (record {
+          distances-long = now .long .distances-long;
+          parents-long = now .long .parents-long;
+          left-long = moved .left-length ∙ now .long .left-long;
+          right-long = moved .right-length ∙ now .long .right-long;
+          values-long = now .long .values-long;
+          inputs-long = same-inputs ∙ now .long .inputs-long;
+          outputs-long = same-outputs ∙ now .long .outputs-long;
+          phases-long = now .long .phases-long;
+        })
+        moved (now .in-rows) (now .manned)
+        (counted ∙ sym (ap someOne by-rule ∙ some-put (putBoth state bags w v workers is) rule))
+        (ap (replaceWorkers state) crew′
+        ∙ put-both state bags w v workers is rule made
+        ∙ sym (ap (λ (o : Option model.State). orElse o state) by-rule))
+
+    -- it has none: the run goes on as it is
+    exchange-unmet : 0 ≡ someOne rule → {left′ right′ : List ℕ} → left′ ≡ left → right′ ≡ right
+        → Going g distances parents left′ right′ values inputs outputs phases busy (used + 1) effective layer
+    exchange-unmet none-there same-left same-right =
+        rw (same-left, same-right)
+        (unmet-on turn
+        (by-rule
+        ∙ ap (putInto (λ (p : Bag × Bag). replaceWorkers state (workers (set (set bags v (p .1)) w (p .0))))) (none-put rule none-there)))
 
 module _ {g : Given} {distances parents left right values : List ℕ} {inputs outputs : List declared.Bag} {phases : List Phase}
     {busy used effective layer w v : ℕ} where
@@ -98,21 +115,38 @@ module _ {g : Given} {distances parents left right values : List ℕ} {inputs ou
     pub split-able : Pooled left right (getD inputs v pastBag ∷ getD inputs w pastBag ∷ [])
     split-able = inputs-pooled (enough now) (now .pool) w v (staffed turn .0) (staffed turn .1) (staffed turn .2)
 
-    -- the run goes on
-    pub split-on : {left′ right′ : List ℕ} {first second : declared.Bag} {met : ℕ}
-        → Exchanged splitRule (getD inputs w pastBag) (getD inputs v pastBag) left right left′ right′ first second met
-        → Going g distances parents left′ right′ values (set (set inputs v second) w first) outputs phases busy (used + 1) (effective + met) layer
-    unfolding stateOf
-    split-on {left′} {right′} {first} {second} exchanged =
-        let bags = inputs-after (enough now) (now .pool) w v (staffed turn .0) (staffed turn .1) (staffed turn .2) values (exchanged .moved) in
-        let by-rule = split-act (graph g) (now-state now) (held-inputs now) (held-outputs now) (shown-phases now) (even now) refl w v in
-        let at-w = input-shown now w (staffed turn .0) in
-        let at-v = input-shown now v (staffed turn .1) in
-        exchange-on turn (held-inputs now) (λ l. crewOf l (held-outputs now) (shown-phases now)) refl w v
-        (splitRule (heldBy left right values (getD inputs w pastBag)) (heldBy left right values (getD inputs v pastBag)))
-        (rw (at-w, at-v) at by-rule) (exchanged .counted values) (rw (at-w, at-v) (exchanged .made values))
-        (ap₂ (λ (a b : List Bag). crewOf a b (shown-phases now)) (bags .inputs-held) (bags .outputs-held))
-        (bags .moved) (length-two inputs v w second first) refl
+    module _ {left′ right′ : List ℕ} {first second : declared.Bag} {met : Bool}
+        (exchanged : Exchanged splitRule (getD inputs w pastBag) (getD inputs v pastBag) left right left′ right′ first second met) where
+      -- the rule for what the two bags hold
+      abbrev split-rule : Option (Bag × Bag)
+      split-rule = splitRule (heldBy left right values (getD inputs w pastBag)) (heldBy left right values (getD inputs v pastBag))
+
+      -- the table goes by it
+      split-by-rule : act (graph g) (now-state now) (Split w v)
+          ≡ putInto (λ (p : Bag × Bag). replaceWorkers (now-state now) (crewOf (set (set (held-inputs now) v (p .1)) w (p .0)) (held-outputs now) (shown-phases now))) split-rule
+      unfolding stateOf
+      split-by-rule =
+          rw (input-shown now w (staffed turn .0), input-shown now v (staffed turn .1)) at
+          (split-act (graph g) (now-state now) (held-inputs now) (held-outputs now) (shown-phases now) (even now) refl w v)
+
+      -- the run goes on
+      pub split-on : met ≡ true
+          → Going g distances parents left′ right′ values (set (set inputs v second) w first) outputs phases busy (used + 1) (effective + 1) layer
+      unfolding stateOf
+      split-on is =
+          let bags = inputs-after (enough now) (now .pool) w v (staffed turn .0) (staffed turn .1) (staffed turn .2) values (exchanged .moved) in
+          exchange-on turn (held-inputs now) (λ l. crewOf l (held-outputs now) (shown-phases now)) refl w v split-rule split-by-rule (rw is at (exchanged .counted values))
+          (rw (input-shown now w (staffed turn .0), input-shown now v (staffed turn .1)) (exchanged .made values))
+          (ap₂ (λ (a b : List Bag). crewOf a b (shown-phases now)) (bags .inputs-held) (bags .outputs-held))
+          (bags .moved) (length-two inputs v w second first) refl
+
+      -- the condition isn't met: it goes on as it is
+      pub split-unmet-on : met ≡ false
+          → Going g distances parents left′ right′ values inputs outputs phases busy (used + 1) effective layer
+      unfolding stateOf
+      split-unmet-on unmet =
+          exchange-unmet turn (held-inputs now) (λ l. crewOf l (held-outputs now) (shown-phases now)) refl w v split-rule split-by-rule (rw unmet at (exchanged .counted values))
+          (exchanged .same-left unmet) (exchanged .same-right unmet)
 
   -- Kind 2.
 
@@ -129,18 +163,35 @@ module _ {g : Given} {distances parents left right values : List ℕ} {inputs ou
     pub unite-able : Pooled left right (getD outputs v pastBag ∷ getD outputs w pastBag ∷ [])
     unite-able = outputs-pooled (enough here) (here .pool) w v (staffed turn .0) (staffed turn .1) (staffed turn .2)
 
-    -- the run goes on
-    pub unite-on : {left′ right′ : List ℕ} {first second : declared.Bag} {met : ℕ}
-        → Exchanged uniteRule (getD outputs w pastBag) (getD outputs v pastBag) left right left′ right′ first second met
-        → Going g distances parents left′ right′ values inputs (set (set outputs v second) w first) phases busy (used + 1) (effective + met) layer
-    unfolding stateOf
-    unite-on {left′} {right′} {first} {second} exchanged =
-        let bags = outputs-after (enough here) (here .pool) w v (staffed turn .0) (staffed turn .1) (staffed turn .2) values (exchanged .moved) in
-        let by-rule = unite-act (graph g) (now-state here) (held-inputs here) (held-outputs here) (shown-phases here) (even here) refl w v in
-        let at-w = output-shown here w (staffed turn .0) in
-        let at-v = output-shown here v (staffed turn .1) in
-        exchange-on turn (held-outputs here) (λ l. crewOf (held-inputs here) l (shown-phases here)) refl w v
-        (uniteRule (heldBy left right values (getD outputs w pastBag)) (heldBy left right values (getD outputs v pastBag)))
-        (rw (at-w, at-v) at by-rule) (exchanged .counted values) (rw (at-w, at-v) (exchanged .made values))
-        (ap₂ (λ (a b : List Bag). crewOf a b (shown-phases here)) (bags .inputs-held) (bags .outputs-held))
-        (bags .moved) refl (length-two outputs v w second first)
+    module _ {left′ right′ : List ℕ} {first second : declared.Bag} {met : Bool}
+        (exchanged : Exchanged uniteRule (getD outputs w pastBag) (getD outputs v pastBag) left right left′ right′ first second met) where
+      -- the rule for what the two bags hold
+      abbrev unite-rule : Option (Bag × Bag)
+      unite-rule = uniteRule (heldBy left right values (getD outputs w pastBag)) (heldBy left right values (getD outputs v pastBag))
+
+      -- the table goes by it
+      unite-by-rule : act (graph g) (now-state here) (Unite w v)
+          ≡ putInto (λ (p : Bag × Bag). replaceWorkers (now-state here) (crewOf (held-inputs here) (set (set (held-outputs here) v (p .1)) w (p .0)) (shown-phases here))) unite-rule
+      unfolding stateOf
+      unite-by-rule =
+          rw (output-shown here w (staffed turn .0), output-shown here v (staffed turn .1)) at
+          (unite-act (graph g) (now-state here) (held-inputs here) (held-outputs here) (shown-phases here) (even here) refl w v)
+
+      -- the run goes on
+      pub unite-on : met ≡ true
+          → Going g distances parents left′ right′ values inputs (set (set outputs v second) w first) phases busy (used + 1) (effective + 1) layer
+      unfolding stateOf
+      unite-on is =
+          let bags = outputs-after (enough here) (here .pool) w v (staffed turn .0) (staffed turn .1) (staffed turn .2) values (exchanged .moved) in
+          exchange-on turn (held-outputs here) (λ l. crewOf (held-inputs here) l (shown-phases here)) refl w v unite-rule unite-by-rule (rw is at (exchanged .counted values))
+          (rw (output-shown here w (staffed turn .0), output-shown here v (staffed turn .1)) (exchanged .made values))
+          (ap₂ (λ (a b : List Bag). crewOf a b (shown-phases here)) (bags .inputs-held) (bags .outputs-held))
+          (bags .moved) refl (length-two outputs v w second first)
+
+      -- the condition isn't met: it goes on as it is
+      pub unite-unmet-on : met ≡ false
+          → Going g distances parents left′ right′ values inputs outputs phases busy (used + 1) effective layer
+      unfolding stateOf
+      unite-unmet-on unmet =
+          exchange-unmet turn (held-outputs here) (λ l. crewOf (held-inputs here) l (shown-phases here)) refl w v unite-rule unite-by-rule (rw unmet at (exchanged .counted values))
+          (exchanged .same-left unmet) (exchanged .same-right unmet)

@@ -190,12 +190,9 @@ module _ {g : Given} {distances parents left right values : List ℕ} {inputs ou
     pub layer-fits : layer + 1 < 65536
     layer-fits = omega (arith, layer-low, at .ready .rows .few-vertices)
 
-    -- a byte more is counted in a word, and so are the effective ones
+    -- a byte more is counted in a word
     pub used-fits : used < length (g .schedule) → used + 1 < 18446744073709551616
     used-fits below = omega (arith, at .ready .few-events)
-
-    pub counted-fits : effective < 18446744073709551616
-    counted-fits = omega (arith, at .ready .few-events, at .within, at .counted)
 
   module _ {e : Event} (turn : Turn g distances parents left right values inputs outputs phases busy used effective layer e) where
     -- what holds before the byte

@@ -95,19 +95,25 @@ pub fn run(
             }
             Event::Split { taker: w, giver: v } => {
                 let shared = split(inputs[w], inputs[v], left, right);
+                if !shared.met {
+                    continue;
+                }
                 let taker = shared.first;
                 let giver = shared.second;
                 inputs[v] = giver;
                 inputs[w] = taker;
-                effective += shared.met;
+                effective += 1;
             }
             Event::Unite { giver: w, taker: v } => {
                 let shared = unite(outputs[w], outputs[v], left, right);
+                if !shared.met {
+                    continue;
+                }
                 let giver = shared.first;
                 let taker = shared.second;
                 outputs[v] = taker;
                 outputs[w] = giver;
-                effective += shared.met;
+                effective += 1;
             }
             Event::Close => {
                 if busy != 0 {

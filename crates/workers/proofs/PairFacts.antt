@@ -1,6 +1,6 @@
 -- Two workers' exchanges: that the code's conditions are the rules', what a split and a union make of the two bags, and that the rules are the table's.
 use mathlib.Core.Path.{_≡_, refl, sym, ap, _∙_}
-use mathlib.Core.Bool.{Bool, true, false, cond, not, _&&_, and-eq-true-iff}
+use mathlib.Core.Bool.{Bool, true, false, cond, not, _&&_, and-eq-true-iff, true≢false}
 use mathlib.Core.List.{List, [], _∷_}
 use mathlib.Core.Option.{Option, none, some}
 use Prim.Native.Nat.{ℕ}
@@ -31,13 +31,19 @@ pool-second a b pool = pool-one (a ∷ b ∷ []) 1 pool (omega arith)
 pub exchange-none : (rule : Bag → Bag → Option (Bag × Bag)) {first second : declared.Bag} {left right : List ℕ}
     → Pooled left right (second ∷ first ∷ [])
     → ((values : List ℕ) → rule (heldBy left right values first) (heldBy left right values second) ≡ none)
-    → Exchanged rule first second left right left right first second 0
+    → Exchanged rule first second left right left right first second false
 unfolding orElse
 exchange-none rule {first} {second} {left} {right} pool unmet = record {
   counted = λ values. rw (unmet values);
   made = λ values. rw (unmet values);
   moved = same-moved (λ f. refl) (pool .formed);
+  same-left = λ unmet. refl;
+  same-right = λ unmet. refl;
 }
+
+-- a condition that was met is no other
+met-only : {A : Type 0} → true ≡ false → A
+met-only said = absurd (true≢false said)
 
 -- Kind 1.
 
@@ -51,17 +57,19 @@ module _ {taker giver : declared.Bag} {left right : List ℕ} (pool : Pooled lef
   split-told values = rw (told left right values pool)
 
   -- the condition isn't met
-  pub split-unmet : met ≡ false → Exchanged splitRule taker giver left right left right taker giver 0
+  pub split-unmet : met ≡ false → Exchanged splitRule taker giver left right left right taker giver false
   split-unmet unmet = exchange-none splitRule pool (λ values. rw unmet at (split-told values))
 
   -- it is
   pub split-made : met ≡ true → {left′ right′ : List ℕ} {kept given : declared.Bag} → SplitInto left right giver left′ right′ kept given
-      → Exchanged splitRule taker giver left right left′ right′ given kept 1
+      → Exchanged splitRule taker giver left right left′ right′ given kept true
   unfolding orElse
   split-made is made = record {
     counted = λ values. rw (split-told values, is);
     made = λ values. rw (split-told values, is, made .held-first values, made .held-second values);
     moved = split-two [] taker (and-eq-true-iff _ _ .0 (sym (told left right [] pool) ∙ is) .0) (made .moved);
+    same-left = met-only;
+    same-right = met-only;
   }
 
 -- Kind 2.
@@ -76,17 +84,19 @@ module _ {giver taker : declared.Bag} {left right : List ℕ} (pool : Pooled lef
   unite-told values = rw (told left right values pool)
 
   -- the condition isn't met
-  pub unite-unmet : met ≡ false → Exchanged uniteRule giver taker left right left right giver taker 0
+  pub unite-unmet : met ≡ false → Exchanged uniteRule giver taker left right left right giver taker false
   unite-unmet unmet = exchange-none uniteRule pool (λ values. rw unmet at (unite-told values))
 
   -- it is
   pub unite-made : met ≡ true → {left′ right′ : List ℕ} {emptied united : declared.Bag} → United left right taker giver left′ right′ united
-      → emptied ≡ newBag → Exchanged uniteRule giver taker left right left′ right′ emptied united 1
+      → emptied ≡ newBag → Exchanged uniteRule giver taker left right left′ right′ emptied united true
   unfolding orElse
   unite-made is {left′} {right′} made new = rw new (record {
     counted = λ values. rw (unite-told values, is);
     made = λ values. rw (unite-told values, is, made .held values, held-none left′ right′ values);
     moved = made .moved;
+    same-left = met-only;
+    same-right = met-only;
   })
 
 -- The table's kinds 1 and 2, of workers whose bags and phases stand in three lists.

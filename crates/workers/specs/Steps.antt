@@ -1,7 +1,7 @@
 -- What the steps of the search take for granted and what they promise: one worker's move, two workers' exchange, the close. A prime marks what
 -- stands there afterwards. No outside contract cites these.
 use mathlib.Core.Path.{_≡_}
-use mathlib.Core.Bool.{Bool, true, cond, not, _&&_}
+use mathlib.Core.Bool.{Bool, true, false, cond, not, _&&_}
 use mathlib.Core.List.{List, [], _∷_, map, foldl}
 use mathlib.Core.Option.{Option, none, some}
 use Prim.Native.Nat.{ℕ, _+_, _≤_, _<_}
@@ -89,13 +89,16 @@ unfoldable pub orElse : {A : Type 0} → Option A → A → A
 orElse none a = a
 orElse (some x) a = x
 
--- the two bags after an exchange by the rule: they hold what it says, and as before where it has nothing for them; numbers stay where they are
+-- the two bags after an exchange by the rule: they hold what it says; where it has nothing for them, bags and lists are as they were; numbers stay
+-- where they are
 pub record Exchanged (rule : Bag → Bag → Option (Bag × Bag)) (first second : declared.Bag) (left right left′ right′ : List ℕ)
-    (first′ second′ : declared.Bag) (met : ℕ) : Type 0 where
-  pub counted : (values : List ℕ) → met ≡ someOne (rule (heldBy left right values first) (heldBy left right values second))
+    (first′ second′ : declared.Bag) (met : Bool) : Type 0 where
+  pub counted : (values : List ℕ) → cond met 1 0 ≡ someOne (rule (heldBy left right values first) (heldBy left right values second))
   pub made : (values : List ℕ) → _≡_ {A = Bag × Bag} (heldBy left′ right′ values first′, heldBy left′ right′ values second′)
       (orElse (rule (heldBy left right values first) (heldBy left right values second)) (heldBy left right values first, heldBy left right values second))
   pub moved : Moved left right (second ∷ first ∷ []) left′ right′ (second′ ∷ first′ ∷ [])
+  pub same-left : met ≡ false → left′ ≡ left
+  pub same-right : met ≡ false → right′ ≡ right
 
 -- All workers.
 

@@ -60,9 +60,9 @@ pub struct Stowed {
     pub phase: Phase,
 }
 
-// The bags of w and v after an exchange, and 1 if its condition was met, else 0.
+// The bags of w and v after an exchange, and whether its condition was met.
 pub struct Exchange {
     pub first: Bag,
     pub second: Bag,
-    pub met: usize,
+    pub met: bool,
 }

@@ -37,7 +37,7 @@ pub fn split(taker: Bag, giver: Bag, left: &mut [u16], right: &mut [u16]) -> Exc
         return Exchange {
             first: taker,
             second: giver,
-            met: 0,
+            met: false,
         };
     }
     let halves = bag::split(giver, left, right);
@@ -46,7 +46,7 @@ pub fn split(taker: Bag, giver: Bag, left: &mut [u16], right: &mut [u16]) -> Exc
     Exchange {
         first: given,
         second: kept,
-        met: 1,
+        met: true,
     }
 }
 
@@ -75,13 +75,13 @@ pub fn unite(giver: Bag, taker: Bag, left: &mut [u16], right: &mut [u16]) -> Exc
         return Exchange {
             first: giver,
             second: taker,
-            met: 0,
+            met: false,
         };
     }
     let united = bag::union(taker, giver, left, right);
     Exchange {
         first: bag::empty(),
         second: united,
-        met: 1,
+        met: true,
     }
 }

@@ -12,11 +12,11 @@ use lib.ListN.{length, getD}
 use Rattle.workers.specs.declared.Phase.the-variants.{Free}
 use Rattle.schedule.specs.declared.Event.{Event}
 use Rattle.schedule.specs.declared.Event.the-variants.{Work, Split, Unite, Close}
-use Rattle.engine.proofs.PlayingFacts.{Given, Going, Turn, turn-of, place-fits, layer-fits, used-fits, counted-fits, effective-fits, few-workers, malformed-on}
+use Rattle.engine.proofs.PlayingFacts.{Given, Going, Turn, turn-of, place-fits, layer-fits, used-fits, effective-fits, few-workers, malformed-on}
 use Rattle.engine.proofs.StartFacts.{givenBy, SameLengths, source-there, start-on}
 use Rattle.engine.proofs.WorkFacts.{work-place, input-told, rest-on, begin-able, stow-able, between-now, advance-able, recount-able, worked-on}
 use Rattle.engine.proofs.WorkFacts.{Worked, begun-worked, stowed-worked, advanced-worked}
-use Rattle.engine.proofs.PairFacts.{split-places, split-able, split-on, unite-places, unite-able, unite-on}
+use Rattle.engine.proofs.PairFacts.{split-places, split-able, split-on, split-unmet-on, unite-places, unite-able, unite-on, unite-unmet-on}
 use Rattle.engine.proofs.CloseFacts.{busy-on, filled-on, gather-able, opened-on, finished-ran, spent-ran}
 use Rattle.engine.proofs.run.run.Statement.{statement}
 use Rattle.engine.proofs.run.run.Tie as tie
@@ -69,20 +69,20 @@ stow-of-more c = c .before .before .before .before .before .before .before .befo
 abbrev workers-of-split : tie.After-split-arg4 Inv-loop μ-loop → tie.After-event2 Inv-loop μ-loop
 workers-of-split c = c .before .before .before .before .before
 
-abbrev split-of-giver : tie.After-giver Inv-loop μ-loop → tie.After-split Inv-loop μ-loop
-split-of-giver c = c .before .before .before .before .before .before
+abbrev split-of-test : tie.After-struct-known Inv-loop μ-loop → tie.After-split Inv-loop μ-loop
+split-of-test c = c .before .before .before .before .before
 
 abbrev workers-of-unite : tie.After-unite-arg4 Inv-loop μ-loop → tie.After-event3 Inv-loop μ-loop
 workers-of-unite c = c .before .before .before .before .before
 
-abbrev unite-of-taker : tie.After-taker2 Inv-loop μ-loop → tie.After-unite Inv-loop μ-loop
-unite-of-taker c = c .before .before .before .before .before .before
+abbrev unite-of-test : tie.After-struct-known2 Inv-loop μ-loop → tie.After-unite Inv-loop μ-loop
+unite-of-test c = c .before .before .before .before .before
 
 -- a close, from where all input bags were seen to be empty, from the call of `gather` and from what follows it
-abbrev close-of-bare : tie.Else3 Inv-loop μ-loop → tie.After-enum-told2 Inv-loop μ-loop
+abbrev close-of-bare : tie.Else5 Inv-loop μ-loop → tie.After-enum-told2 Inv-loop μ-loop
 close-of-bare c = c .before .before .before
 
-abbrev bare-of-gather : tie.After-gather-arg3 Inv-loop μ-loop → tie.Else3 Inv-loop μ-loop
+abbrev bare-of-gather : tie.After-gather-arg3 Inv-loop μ-loop → tie.Else5 Inv-loop μ-loop
 bare-of-gather c = c .before .before .before
 
 abbrev gather-of-test : tie.After-slice-known22 Inv-loop μ-loop → tie.After-gather Inv-loop μ-loop
@@ -312,28 +312,37 @@ array-copy-out-split-2 c = split-places (split-turn (c .before .before)) .1
 split-requires : tie.Need-split-requires Inv-loop μ-loop
 split-requires c κs = split-able (split-turn (workers-of-split c))
 
-mul-inputs-2 : tie.Need-mul-inputs-2 Inv-loop μ-loop
-mul-inputs-2 c = place-fits 32 (split-places (split-turn (workers-of-split (split-of-giver c .before))) .1) (search needs)
-
-array-set-from-inputs-2 : tie.Need-array-set-from-inputs-2 Inv-loop μ-loop
-array-set-from-inputs-2 c = split-places (split-turn (workers-of-split (split-of-giver c .before))) .1
-
-mul-inputs-3 : tie.Need-mul-inputs-3 Inv-loop μ-loop
-mul-inputs-3 c = place-fits 32 (split-places (split-turn (workers-of-split (split-of-giver c .before))) .0) (search needs)
-
-array-set-from-inputs-3 : tie.Need-array-set-from-inputs-3 Inv-loop μ-loop
-array-set-from-inputs-3 c = split-places (split-turn (workers-of-split (split-of-giver c .before))) .0
-
 loop-less-3 : tie.Need-loop-less-3 Inv-loop μ-loop
 loop-less-3 c = search needs
 
 loop-again-3 : tie.Need-loop-again-3 Inv-loop μ-loop
 loop-again-3 c =
-    let made = split-of-giver (c .before) in
-    split-on (split-turn (workers-of-split (made .before))) (made .split .ensures)
+    let made = split-of-test (c .before) in
+    split-unmet-on (split-turn (workers-of-split (made .before))) (made .split .ensures) (not-true _ (c .if2 .taken))
+
+mul-inputs-2 : tie.Need-mul-inputs-2 Inv-loop μ-loop
+mul-inputs-2 c = place-fits 32 (split-places (split-turn (workers-of-split (split-of-test (c .before .before .before) .before))) .1) (search needs)
+
+array-set-from-inputs-2 : tie.Need-array-set-from-inputs-2 Inv-loop μ-loop
+array-set-from-inputs-2 c = split-places (split-turn (workers-of-split (split-of-test (c .before .before .before) .before))) .1
+
+mul-inputs-3 : tie.Need-mul-inputs-3 Inv-loop μ-loop
+mul-inputs-3 c = place-fits 32 (split-places (split-turn (workers-of-split (split-of-test (c .before .before .before) .before))) .0) (search needs)
+
+array-set-from-inputs-3 : tie.Need-array-set-from-inputs-3 Inv-loop μ-loop
+array-set-from-inputs-3 c = split-places (split-turn (workers-of-split (split-of-test (c .before .before .before) .before))) .0
 
 add-effective-2 : tie.Need-add-effective-2 Inv-loop μ-loop
-add-effective-2 c = record { fits = counted-fits (loop-again-3 c) }
+add-effective-2 c = record { fits = effective-fits (split-turn (workers-of-split (split-of-test (c .before .before .before) .before))) }
+
+loop-less-4 : tie.Need-loop-less-4 Inv-loop μ-loop
+loop-less-4 c = search needs
+
+loop-again-4 : tie.Need-loop-again-4 Inv-loop μ-loop
+loop-again-4 c =
+    let test = c .before .before in
+    let made = split-of-test (test .before) in
+    split-on (split-turn (workers-of-split (made .before))) (made .split .ensures) (not-false _ (test .if2 .left))
 
 enum-known-event-3 : tie.Need-enum-known-event-3 Inv-loop μ-loop
 enum-known-event-3 c = search needs
@@ -353,46 +362,55 @@ array-copy-out-unite-2 c = unite-places (unite-turn (c .before .before)) .1
 unite-requires : tie.Need-unite-requires Inv-loop μ-loop
 unite-requires c κs = unite-able (unite-turn (workers-of-unite c))
 
-mul-outputs-2 : tie.Need-mul-outputs-2 Inv-loop μ-loop
-mul-outputs-2 c = place-fits 32 (unite-places (unite-turn (workers-of-unite (unite-of-taker c .before))) .1) (search needs)
-
-array-set-from-outputs-2 : tie.Need-array-set-from-outputs-2 Inv-loop μ-loop
-array-set-from-outputs-2 c = unite-places (unite-turn (workers-of-unite (unite-of-taker c .before))) .1
-
-mul-outputs-3 : tie.Need-mul-outputs-3 Inv-loop μ-loop
-mul-outputs-3 c = place-fits 32 (unite-places (unite-turn (workers-of-unite (unite-of-taker c .before))) .0) (search needs)
-
-array-set-from-outputs-3 : tie.Need-array-set-from-outputs-3 Inv-loop μ-loop
-array-set-from-outputs-3 c = unite-places (unite-turn (workers-of-unite (unite-of-taker c .before))) .0
-
-loop-less-4 : tie.Need-loop-less-4 Inv-loop μ-loop
-loop-less-4 c = search needs
-
-loop-again-4 : tie.Need-loop-again-4 Inv-loop μ-loop
-loop-again-4 c =
-    let made = unite-of-taker (c .before) in
-    unite-on (unite-turn (workers-of-unite (made .before))) (made .unite .ensures)
-
-add-effective-3 : tie.Need-add-effective-3 Inv-loop μ-loop
-add-effective-3 c = record { fits = counted-fits (loop-again-4 c) }
-
-enum-told-2 : tie.Need-enum-told-2 Inv-loop μ-loop
-enum-told-2 c = search needs
-
 loop-less-5 : tie.Need-loop-less-5 Inv-loop μ-loop
 loop-less-5 c = search needs
 
 loop-again-5 : tie.Need-loop-again-5 Inv-loop μ-loop
-loop-again-5 c = busy-on (close-turn (c .before)) (c .if2 .taken)
+loop-again-5 c =
+    let made = unite-of-test (c .before) in
+    unite-unmet-on (unite-turn (workers-of-unite (made .before))) (made .unite .ensures) (not-true _ (c .if3 .taken))
 
-all-empty-requires : tie.Need-all-empty-requires Inv-loop μ-loop
-all-empty-requires c κs = few-workers (close-turn (c .before) .going)
+mul-outputs-2 : tie.Need-mul-outputs-2 Inv-loop μ-loop
+mul-outputs-2 c = place-fits 32 (unite-places (unite-turn (workers-of-unite (unite-of-test (c .before .before .before) .before))) .1) (search needs)
+
+array-set-from-outputs-2 : tie.Need-array-set-from-outputs-2 Inv-loop μ-loop
+array-set-from-outputs-2 c = unite-places (unite-turn (workers-of-unite (unite-of-test (c .before .before .before) .before))) .1
+
+mul-outputs-3 : tie.Need-mul-outputs-3 Inv-loop μ-loop
+mul-outputs-3 c = place-fits 32 (unite-places (unite-turn (workers-of-unite (unite-of-test (c .before .before .before) .before))) .0) (search needs)
+
+array-set-from-outputs-3 : tie.Need-array-set-from-outputs-3 Inv-loop μ-loop
+array-set-from-outputs-3 c = unite-places (unite-turn (workers-of-unite (unite-of-test (c .before .before .before) .before))) .0
+
+add-effective-3 : tie.Need-add-effective-3 Inv-loop μ-loop
+add-effective-3 c = record { fits = effective-fits (unite-turn (workers-of-unite (unite-of-test (c .before .before .before) .before))) }
 
 loop-less-6 : tie.Need-loop-less-6 Inv-loop μ-loop
 loop-less-6 c = search needs
 
 loop-again-6 : tie.Need-loop-again-6 Inv-loop μ-loop
-loop-again-6 c = filled-on (close-turn (c .before .before .before)) (c .before .before .if2 .left) (c .before .all-empty .ensures) (not-true _ (c .if3 .taken))
+loop-again-6 c =
+    let test = c .before .before in
+    let made = unite-of-test (test .before) in
+    unite-on (unite-turn (workers-of-unite (made .before))) (made .unite .ensures) (not-false _ (test .if3 .left))
+
+enum-told-2 : tie.Need-enum-told-2 Inv-loop μ-loop
+enum-told-2 c = search needs
+
+loop-less-7 : tie.Need-loop-less-7 Inv-loop μ-loop
+loop-less-7 c = search needs
+
+loop-again-7 : tie.Need-loop-again-7 Inv-loop μ-loop
+loop-again-7 c = busy-on (close-turn (c .before)) (c .if4 .taken)
+
+all-empty-requires : tie.Need-all-empty-requires Inv-loop μ-loop
+all-empty-requires c κs = few-workers (close-turn (c .before) .going)
+
+loop-less-8 : tie.Need-loop-less-8 Inv-loop μ-loop
+loop-less-8 c = search needs
+
+loop-again-8 : tie.Need-loop-again-8 Inv-loop μ-loop
+loop-again-8 c = filled-on (close-turn (c .before .before .before)) (c .before .before .if4 .left) (c .before .all-empty .ensures) (not-true _ (c .if5 .taken))
 
 array-copy-out-gather : tie.Need-array-copy-out-gather Inv-loop μ-loop
 array-copy-out-gather c = search needs
@@ -400,13 +418,13 @@ array-copy-out-gather c = search needs
 gather-requires : tie.Need-gather-requires Inv-loop μ-loop
 gather-requires c κs =
     let bare = bare-of-gather c in
-    gather-able (close-turn (close-of-bare bare)) (bare .before .before .if2 .left) (bare .before .all-empty .ensures) (not-false _ (bare .if3 .left))
+    gather-able (close-turn (close-of-bare bare)) (bare .before .before .if4 .left) (bare .before .all-empty .ensures) (not-false _ (bare .if5 .left))
 
 add-next : tie.Need-add-next Inv-loop μ-loop
 add-next c = record { fits = layer-fits (close-turn (close-of-bare (bare-of-gather (gather-of-test c .before))) .going) }
 
 add-counted : tie.Need-add-counted Inv-loop μ-loop
-add-counted c = record { fits = effective-fits (close-turn (close-of-bare (bare-of-gather (gather-of-test c .before)))) }
+add-counted c = record { fits = omega (arith, effective-fits (close-turn (close-of-bare (bare-of-gather (gather-of-test c .before))))) }
 
 is-empty-requires-2 : tie.Need-is-empty-requires-2 Inv-loop μ-loop
 is-empty-requires-2 c κs = search needs
@@ -434,8 +452,8 @@ returns c =
     let test = c .before .before in
     let gathered = gather-of-test (test .before) in
     let bare = bare-of-gather (gathered .before) in
-    finished-ran (close-turn (close-of-bare bare)) (bare .before .before .if2 .left) (bare .before .all-empty .ensures) (not-false _ (bare .if3 .left))
-    (gathered .gather .ensures) (test .is-empty2 .ensures) (c .before .if4 .taken) (c .conclude .ensures)
+    finished-ran (close-turn (close-of-bare bare)) (bare .before .before .if4 .left) (bare .before .all-empty .ensures) (not-false _ (bare .if5 .left))
+    (gathered .gather .ensures) (test .is-empty2 .ensures) (c .before .if6 .taken) (c .conclude .ensures)
 
 first-of-eight-requires-3 : tie.Need-first-of-eight-requires-3 Inv-loop μ-loop
 first-of-eight-requires-3 c κs = search needs
@@ -449,26 +467,26 @@ first-of-eight-requires-4 c κs = search needs
 all-free-requires-2 : tie.Need-all-free-requires-2 Inv-loop μ-loop
 all-free-requires-2 c κs = search needs
 
-loop-less-7 : tie.Need-loop-less-7 Inv-loop μ-loop
-loop-less-7 c = search needs
+loop-less-9 : tie.Need-loop-less-9 Inv-loop μ-loop
+loop-less-9 c = search needs
 
-loop-again-7 : tie.Need-loop-again-7 Inv-loop μ-loop
-loop-again-7 c =
+loop-again-9 : tie.Need-loop-again-9 Inv-loop μ-loop
+loop-again-9 c =
     let filled = c .before .before .before .before in
     let gathered = gather-of-test (filled .before .before) in
     let bare = bare-of-gather (gathered .before) in
-    opened-on (close-turn (close-of-bare bare)) (bare .before .before .if2 .left) (bare .before .all-empty .ensures) (not-false _ (bare .if3 .left))
-    (gathered .gather .ensures) (filled .before .is-empty2 .ensures) (filled .if4 .left) (c .before .before .before .first-of-eight3 .ensures)
+    opened-on (close-turn (close-of-bare bare)) (bare .before .before .if4 .left) (bare .before .all-empty .ensures) (not-false _ (bare .if5 .left))
+    (gathered .gather .ensures) (filled .before .is-empty2 .ensures) (filled .if6 .left) (c .before .before .before .first-of-eight3 .ensures)
     (c .before .before .empty2 .ensures) (c .before .first-of-eight4 .ensures) (c .all-free2 .ensures)
 
 enum-told-3 : tie.Need-enum-told-3 Inv-loop μ-loop
 enum-told-3 c = search needs
 
-loop-less-8 : tie.Need-loop-less-8 Inv-loop μ-loop
-loop-less-8 c = search needs
+loop-less-10 : tie.Need-loop-less-10 Inv-loop μ-loop
+loop-less-10 c = search needs
 
-loop-again-8 : tie.Need-loop-again-8 Inv-loop μ-loop
-loop-again-8 c = malformed-on (turn (c .before .before) (c .enum-told3 .given .1))
+loop-again-10 : tie.Need-loop-again-10 Inv-loop μ-loop
+loop-again-10 c = malformed-on (turn (c .before .before) (c .enum-told3 .given .1))
 
 conclude-requires-2 : tie.Need-conclude-requires-2 Inv-loop μ-loop
 conclude-requires-2 c κs = search needs
@@ -537,32 +555,36 @@ run-spec =
     mul-split-2
     array-copy-out-split-2
     split-requires
+    loop-less-3
+    loop-again-3
     mul-inputs-2
     array-set-from-inputs-2
     mul-inputs-3
     array-set-from-inputs-3
     add-effective-2
-    loop-less-3
-    loop-again-3
+    loop-less-4
+    loop-again-4
     enum-known-event-3
     mul-unite
     array-copy-out-unite
     mul-unite-2
     array-copy-out-unite-2
     unite-requires
+    loop-less-5
+    loop-again-5
     mul-outputs-2
     array-set-from-outputs-2
     mul-outputs-3
     array-set-from-outputs-3
     add-effective-3
-    loop-less-4
-    loop-again-4
-    enum-told-2
-    loop-less-5
-    loop-again-5
-    all-empty-requires
     loop-less-6
     loop-again-6
+    enum-told-2
+    loop-less-7
+    loop-again-7
+    all-empty-requires
+    loop-less-8
+    loop-again-8
     array-copy-out-gather
     gather-requires
     add-next
@@ -579,11 +601,11 @@ run-spec =
     empty-requires-2
     first-of-eight-requires-4
     all-free-requires-2
-    loop-less-7
-    loop-again-7
+    loop-less-9
+    loop-again-9
     enum-told-3
-    loop-less-8
-    loop-again-8
+    loop-less-10
+    loop-again-10
     conclude-requires-2
     same-length-6
     same-length-7
