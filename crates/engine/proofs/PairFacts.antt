@@ -1,15 +1,17 @@
 -- Two workers' exchange in a run: what it takes for granted holds, and after it the engine is where the model is, whether its condition was met or not.
 use mathlib.Core.Path.{_≡_, refl, sym, ap, ap₂, _∙_}
 use mathlib.Core.Bool.{Bool, true, false, cond}
-use mathlib.Core.List.{List, [], _∷_}
+use mathlib.Core.List.{List, [], _∷_, map}
 use mathlib.Core.Option.{Option, none, some}
 use Prim.Native.Nat.{ℕ, _+_, _<_}
 use native.Mathlib.Omega.{arith}
-use lib.ListN.{length, getD, set}
+use lib.ListN.{length, getD, set, take}
 use lib.Seq.{set-getD}
-use Rattle.lists.specs.Lists.{someOne}
+use Rattle.lists.specs.Lists.{someOne, sumOf}
 use Rattle.lists.proofs.Replaced.{length-two}
+use Rattle.lists.proofs.Sums.{sum-two}
 use Rattle.pennant.specs.Bag.{Bag, emptyBag}
+use Rattle.pennant.specs.Held.{size}
 use Rattle.bag.specs.declared.Bag as declared
 use Rattle.bag.specs.Nodes.{heldBy, pastBag}
 use Rattle.bag.specs.Promises.{Pooled, Moved}
@@ -20,7 +22,7 @@ use Rattle.model.specs.Table.{replaceWorkers, act}
 use Rattle.workers.specs.declared.Phase.{Phase}
 use Rattle.workers.specs.Shown.{crewOf, stateOf}
 use Rattle.workers.specs.Steps.{splitRule, uniteRule, orElse, Exchanged}
-use Rattle.workers.proofs.PairFacts.{putInto, split-act, unite-act}
+use Rattle.workers.proofs.PairFacts.{putInto, split-size, unite-size, split-act, unite-act}
 use Rattle.workers.proofs.BagsFacts.{bagsOf, inputs-pooled, outputs-pooled, inputs-after, outputs-after}
 use Rattle.engine.proofs.PlayingFacts.{Given, graph, crew, Going, Turn, now-state, enough, even, held-inputs, held-outputs, shown-phases}
 use Rattle.engine.proofs.PlayingFacts.{input-shown, output-shown, staffed, play-on, unmet-on}
@@ -53,7 +55,7 @@ none-put none same = refl
 none-put (some x) same = absurd (omega arith)
 
 module _ {g : Given} {distances parents left right values : List ℕ} {inputs outputs : List declared.Bag} {phases : List Phase}
-    {busy used effective layer : ℕ} {e : Event} (turn : Turn g distances parents left right values inputs outputs phases busy used effective layer e) where
+    {pending found used effective layer : ℕ} {e : Event} (turn : Turn g distances parents left right values inputs outputs phases pending found used effective layer e) where
   -- the state
   abbrev state : model.State
   state = now-state (turn .going)
@@ -68,9 +70,11 @@ module _ {g : Given} {distances parents left right values : List ℕ} {inputs ou
         → crew g left′ right′ values inputs′ outputs′ phases ≡ workers (set (set bags v second) w first)
         → Moved left right (bagsOf (g .workers) inputs outputs) left′ right′ (bagsOf (g .workers) inputs′ outputs′)
         → length inputs′ ≡ length inputs → length outputs′ ≡ length outputs
-        → Going g distances parents left′ right′ values inputs′ outputs′ phases busy (used + 1) (effective + 1) layer
+        → sumOf size (map (heldBy left′ right′ values) (take (g .workers) inputs′)) ≡ sumOf size (held-inputs (turn .going))
+        → sumOf size (map (heldBy left′ right′ values) (take (g .workers) outputs′)) ≡ sumOf size (held-outputs (turn .going))
+        → Going g distances parents left′ right′ values inputs′ outputs′ phases pending found (used + 1) (effective + 1) layer
     unfolding stateOf
-    exchange-on counted made crew′ moved same-inputs same-outputs =
+    exchange-on counted made crew′ moved same-inputs same-outputs inputs-size outputs-size =
         let now = turn .going in
         play-on turn
         (record {
@@ -83,7 +87,7 @@ module _ {g : Given} {distances parents left right values : List ℕ} {inputs ou
           outputs-long = same-outputs ∙ now .long .outputs-long;
           phases-long = now .long .phases-long;
         })
-        moved (now .in-rows) (now .manned)
+        moved (now .in-rows) (omega (arith, now .waiting, inputs-size)) (now .stowed ∙ sym outputs-size)
         (counted ∙ sym (ap someOne by-rule ∙ some-put (putBoth state bags w v workers is) rule))
         (ap (replaceWorkers state) crew′
         ∙ put-both state bags w v workers is rule made
@@ -91,7 +95,7 @@ module _ {g : Given} {distances parents left right values : List ℕ} {inputs ou
 
     -- it has none: the run goes on as it is
     exchange-unmet : 0 ≡ someOne rule → {left′ right′ : List ℕ} → left′ ≡ left → right′ ≡ right
-        → Going g distances parents left′ right′ values inputs outputs phases busy (used + 1) effective layer
+        → Going g distances parents left′ right′ values inputs outputs phases pending found (used + 1) effective layer
     exchange-unmet none-there same-left same-right =
         rw (same-left, same-right)
         (unmet-on turn
@@ -99,12 +103,12 @@ module _ {g : Given} {distances parents left right values : List ℕ} {inputs ou
         ∙ ap (putInto (λ (p : Bag × Bag). replaceWorkers state (workers (set (set bags v (p .1)) w (p .0))))) (none-put rule none-there)))
 
 module _ {g : Given} {distances parents left right values : List ℕ} {inputs outputs : List declared.Bag} {phases : List Phase}
-    {busy used effective layer w v : ℕ} where
+    {pending found used effective layer w v : ℕ} where
   -- Kind 1.
 
-  module _ (turn : Turn g distances parents left right values inputs outputs phases busy used effective layer (Split w v)) where
+  module _ (turn : Turn g distances parents left right values inputs outputs phases pending found used effective layer (Split w v)) where
     -- what holds before the byte
-    abbrev now : Going g distances parents left right values inputs outputs phases busy used effective layer
+    abbrev now : Going g distances parents left right values inputs outputs phases pending found used effective layer
     now = turn .going
 
     -- the two workers are two of eight
@@ -131,18 +135,33 @@ module _ {g : Given} {distances parents left right values : List ℕ} {inputs ou
 
       -- the run goes on
       pub split-on : met ≡ true
-          → Going g distances parents left′ right′ values (set (set inputs v second) w first) outputs phases busy (used + 1) (effective + 1) layer
+          → Going g distances parents left′ right′ values (set (set inputs v second) w first) outputs phases pending found (used + 1) (effective + 1) layer
       unfolding stateOf
       split-on is =
           let bags = inputs-after (enough now) (now .pool) w v (staffed turn .0) (staffed turn .1) (staffed turn .2) values (exchanged .moved) in
           exchange-on turn (held-inputs now) (λ l. crewOf l (held-outputs now) (shown-phases now)) refl w v split-rule split-by-rule (rw is at (exchanged .counted values))
           (rw (input-shown now w (staffed turn .0), input-shown now v (staffed turn .1)) (exchanged .made values))
           (ap₂ (λ (a b : List Bag). crewOf a b (shown-phases now)) (bags .inputs-held) (bags .outputs-held))
-          (bags .moved) (length-two inputs v w second first) refl
+          (bags .moved) (length-two inputs v w second first) refl (ap (sumOf size) (bags .inputs-held) ∙ exchanged-size) (ap (sumOf size) (bags .outputs-held))
+        where
+          -- as many numbers as before
+          exchanged-size : sumOf size (set (set (held-inputs now) v (heldBy left′ right′ values second)) w (heldBy left′ right′ values first)) ≡ sumOf size (held-inputs now)
+          exchanged-size =
+              let a = heldBy left right values (getD inputs w pastBag) in
+              let b = heldBy left right values (getD inputs v pastBag) in
+              omega (
+                arith,
+                sum-two size (held-inputs now) w v (heldBy left′ right′ values first) (heldBy left′ right′ values second) emptyBag
+                    (omega (arith, even now .inputs-long, staffed turn .0)) (omega (arith, even now .inputs-long, staffed turn .1)) (staffed turn .2),
+                ap size (input-shown now w (staffed turn .0)),
+                ap size (input-shown now v (staffed turn .1)),
+                ap (λ (p : Bag × Bag). size (p .0) + size (p .1)) (exchanged .made values),
+                split-size a b,
+              )
 
       -- the condition isn't met: it goes on as it is
       pub split-unmet-on : met ≡ false
-          → Going g distances parents left′ right′ values inputs outputs phases busy (used + 1) effective layer
+          → Going g distances parents left′ right′ values inputs outputs phases pending found (used + 1) effective layer
       unfolding stateOf
       split-unmet-on unmet =
           exchange-unmet turn (held-inputs now) (λ l. crewOf l (held-outputs now) (shown-phases now)) refl w v split-rule split-by-rule (rw unmet at (exchanged .counted values))
@@ -150,9 +169,9 @@ module _ {g : Given} {distances parents left right values : List ℕ} {inputs ou
 
   -- Kind 2.
 
-  module _ (turn : Turn g distances parents left right values inputs outputs phases busy used effective layer (Unite w v)) where
+  module _ (turn : Turn g distances parents left right values inputs outputs phases pending found used effective layer (Unite w v)) where
     -- what holds before the byte
-    abbrev here : Going g distances parents left right values inputs outputs phases busy used effective layer
+    abbrev here : Going g distances parents left right values inputs outputs phases pending found used effective layer
     here = turn .going
 
     -- the two workers are two of eight
@@ -179,18 +198,33 @@ module _ {g : Given} {distances parents left right values : List ℕ} {inputs ou
 
       -- the run goes on
       pub unite-on : met ≡ true
-          → Going g distances parents left′ right′ values inputs (set (set outputs v second) w first) phases busy (used + 1) (effective + 1) layer
+          → Going g distances parents left′ right′ values inputs (set (set outputs v second) w first) phases pending found (used + 1) (effective + 1) layer
       unfolding stateOf
       unite-on is =
           let bags = outputs-after (enough here) (here .pool) w v (staffed turn .0) (staffed turn .1) (staffed turn .2) values (exchanged .moved) in
           exchange-on turn (held-outputs here) (λ l. crewOf (held-inputs here) l (shown-phases here)) refl w v unite-rule unite-by-rule (rw is at (exchanged .counted values))
           (rw (output-shown here w (staffed turn .0), output-shown here v (staffed turn .1)) (exchanged .made values))
           (ap₂ (λ (a b : List Bag). crewOf a b (shown-phases here)) (bags .inputs-held) (bags .outputs-held))
-          (bags .moved) refl (length-two outputs v w second first)
+          (bags .moved) refl (length-two outputs v w second first) (ap (sumOf size) (bags .inputs-held)) (ap (sumOf size) (bags .outputs-held) ∙ exchanged-size)
+        where
+          -- as many numbers as before
+          exchanged-size : sumOf size (set (set (held-outputs here) v (heldBy left′ right′ values second)) w (heldBy left′ right′ values first)) ≡ sumOf size (held-outputs here)
+          exchanged-size =
+              let a = heldBy left right values (getD outputs w pastBag) in
+              let b = heldBy left right values (getD outputs v pastBag) in
+              omega (
+                arith,
+                sum-two size (held-outputs here) w v (heldBy left′ right′ values first) (heldBy left′ right′ values second) emptyBag
+                    (omega (arith, even here .outputs-long, staffed turn .0)) (omega (arith, even here .outputs-long, staffed turn .1)) (staffed turn .2),
+                ap size (output-shown here w (staffed turn .0)),
+                ap size (output-shown here v (staffed turn .1)),
+                ap (λ (p : Bag × Bag). size (p .0) + size (p .1)) (exchanged .made values),
+                unite-size a b,
+              )
 
       -- the condition isn't met: it goes on as it is
       pub unite-unmet-on : met ≡ false
-          → Going g distances parents left′ right′ values inputs outputs phases busy (used + 1) effective layer
+          → Going g distances parents left′ right′ values inputs outputs phases pending found (used + 1) effective layer
       unfolding stateOf
       unite-unmet-on unmet =
           exchange-unmet turn (held-outputs here) (λ l. crewOf (held-inputs here) l (shown-phases here)) refl w v unite-rule unite-by-rule (rw unmet at (exchanged .counted values))

@@ -17,7 +17,7 @@ use Rattle.lists.proofs.Replaced.{map-at}
 use Rattle.graph.specs.Graph.{Graph, rowsOf}
 use Rattle.graph.specs.Steps.{GraphRows}
 use Rattle.pennant.specs.Bag.{Bag, emptyBag}
-use Rattle.pennant.specs.Held.{one}
+use Rattle.pennant.specs.Held.{size, one}
 use Rattle.bag.specs.declared.Bag as declared
 use Rattle.bag.specs.Nodes.{heldBy, pastBag}
 use Rattle.bag.specs.Promises.{Pooled, Moved, weighNodes, weighFree}
@@ -88,7 +88,7 @@ pub record Long (g : Given) (distances parents left right values : List ℕ) (in
 
 -- the engine's values before a byte are those of the model's run over the bytes so far, and its lists are in order
 pub record Going (g : Given) (distances parents left right values : List ℕ) (inputs outputs : List declared.Bag) (phases : List Phase)
-    (busy used effective layer : ℕ) : Type 0 where
+    (pending found used effective layer : ℕ) : Type 0 where
   pub ready : Ready g
   pub long : Long g distances parents left right values inputs outputs phases
   pub within : used ≤ length (g .schedule)
@@ -98,18 +98,20 @@ pub record Going (g : Given) (distances parents left right values : List ℕ) (i
   pub pool : Pooled left right (bagsOf (g .workers) inputs outputs)
   pub whole : weighNodes one left right (bagsOf (g .workers) inputs outputs) + weighFree one left ≡ g .workers * g .vertices
   pub in-rows : (w : ℕ) → w < g .workers → InRows (g .offsets) (g .vertices) (getD phases w Free)
-  -- so many workers hold a vertex
-  pub manned : busy ≡ sumOf heldOf (take (g .workers) phases)
+  -- so many numbers are in the input bags, and workers hold a vertex
+  pub waiting : pending ≡ sumOf size (map (heldBy left right values) (take (g .workers) inputs)) + sumOf heldOf (take (g .workers) phases)
+  -- so many numbers are in the output bags
+  pub stowed : found ≡ sumOf size (map (heldBy left right values) (take (g .workers) outputs))
 
 -- and the next byte says e
 pub record Turn (g : Given) (distances parents left right values : List ℕ) (inputs outputs : List declared.Bag) (phases : List Phase)
-    (busy used effective layer : ℕ) (e : Event) : Type 0 where
-  pub going : Going g distances parents left right values inputs outputs phases busy used effective layer
+    (pending found used effective layer : ℕ) (e : Event) : Type 0 where
+  pub going : Going g distances parents left right values inputs outputs phases pending found used effective layer
   pub below : used < length (g .schedule)
   pub event : eventOf (getD (g .schedule) used 0) ≡ e
 
-module _ {g : Given} {distances parents left right values : List ℕ} {inputs outputs : List declared.Bag} {phases : List Phase} {busy used effective layer : ℕ} where
-  module _ (at : Going g distances parents left right values inputs outputs phases busy used effective layer) where
+module _ {g : Given} {distances parents left right values : List ℕ} {inputs outputs : List declared.Bag} {phases : List Phase} {pending found used effective layer : ℕ} where
+  module _ (at : Going g distances parents left right values inputs outputs phases pending found used effective layer) where
     -- the number of workers
     abbrev pub P : ℕ
     P = g .workers
@@ -194,9 +196,9 @@ module _ {g : Given} {distances parents left right values : List ℕ} {inputs ou
     pub used-fits : used < length (g .schedule) → used + 1 < 18446744073709551616
     used-fits below = omega (arith, at .ready .few-events)
 
-  module _ {e : Event} (turn : Turn g distances parents left right values inputs outputs phases busy used effective layer e) where
+  module _ {e : Event} (turn : Turn g distances parents left right values inputs outputs phases pending found used effective layer e) where
     -- what holds before the byte
-    abbrev at : Going g distances parents left right values inputs outputs phases busy used effective layer
+    abbrev at : Going g distances parents left right values inputs outputs phases pending found used effective layer
     at = turn .going
 
     -- the run so far
@@ -242,15 +244,16 @@ module _ {g : Given} {distances parents left right values : List ℕ} {inputs ou
         (rw (turn .event) at (stray-at (g .workers) used (g .schedule) (at .ready .accepted .formed) (turn .below)))
 
     -- after it the engine is where the model is
-    pub play-on : {distances′ parents′ left′ right′ values′ : List ℕ} {inputs′ outputs′ : List declared.Bag} {phases′ : List Phase} {busy′ layer′ met : ℕ}
+    pub play-on : {distances′ parents′ left′ right′ values′ : List ℕ} {inputs′ outputs′ : List declared.Bag} {phases′ : List Phase} {pending′ found′ layer′ met : ℕ}
         → Long g distances′ parents′ left′ right′ values′ inputs′ outputs′ phases′
         → Moved left right (bagsOf (g .workers) inputs outputs) left′ right′ (bagsOf (g .workers) inputs′ outputs′)
         → ((w : ℕ) → w < g .workers → InRows (g .offsets) (g .vertices) (getD phases′ w Free))
-        → busy′ ≡ sumOf heldOf (take (g .workers) phases′)
+        → pending′ ≡ sumOf size (map (heldBy left′ right′ values′) (take (g .workers) inputs′)) + sumOf heldOf (take (g .workers) phases′)
+        → found′ ≡ sumOf size (map (heldBy left′ right′ values′) (take (g .workers) outputs′))
         → met ≡ someOne (act (graph g) (now-state at) e)
         → stateOf distances′ parents′ (crew g left′ right′ values′ inputs′ outputs′ phases′) layer′ ≡ orElse (act (graph g) (now-state at) e) (now-state at)
-        → Going g distances′ parents′ left′ right′ values′ inputs′ outputs′ phases′ busy′ (used + 1) (effective + met) layer′
-    play-on {met = met} long moved in-rows manned counts after = record {
+        → Going g distances′ parents′ left′ right′ values′ inputs′ outputs′ phases′ pending′ found′ (used + 1) (effective + met) layer′
+    play-on {met = met} long moved in-rows waiting stowed counts after = record {
       ready = at .ready;
       long = long;
       within = omega (arith, turn .below);
@@ -259,7 +262,8 @@ module _ {g : Given} {distances parents left right values : List ℕ} {inputs ou
       pool = moved-pool (at .pool) moved;
       whole = moved .nodes one ∙ at .whole;
       in-rows = in-rows;
-      manned = manned;
+      waiting = waiting;
+      stowed = stowed;
     }
       where
         some-few : (o : Option model.State) → someOne o ≤ 1
@@ -268,7 +272,7 @@ module _ {g : Given} {distances parents left right values : List ℕ} {inputs ou
 
     -- after one whose condition isn't met it is where it was
     pub unmet-on : act (graph g) (now-state at) e ≡ none
-        → Going g distances parents left right values inputs outputs phases busy (used + 1) effective layer
+        → Going g distances parents left right values inputs outputs phases pending found (used + 1) effective layer
     unfolding orElse
     unmet-on unmet = record {
       ready = at .ready;
@@ -279,20 +283,21 @@ module _ {g : Given} {distances parents left right values : List ℕ} {inputs ou
       pool = at .pool;
       whole = at .whole;
       in-rows = at .in-rows;
-      manned = at .manned;
+      waiting = at .waiting;
+      stowed = at .stowed;
     }
 
   -- a byte of no form
-  pub malformed-on : Turn g distances parents left right values inputs outputs phases busy used effective layer Malformed
-      → Going g distances parents left right values inputs outputs phases busy (used + 1) effective layer
+  pub malformed-on : Turn g distances parents left right values inputs outputs phases pending found used effective layer Malformed
+      → Going g distances parents left right values inputs outputs phases pending found (used + 1) effective layer
   unfolding act
   malformed-on turn = unmet-on turn refl
 
 -- a turn, by what was decoded
 pub turn-of : {g : Given} {distances parents left right values : List ℕ} {inputs outputs : List declared.Bag} {phases : List Phase}
-    {busy used effective layer : ℕ} {said e : Event} → Going g distances parents left right values inputs outputs phases busy used effective layer
+    {pending found used effective layer : ℕ} {said e : Event} → Going g distances parents left right values inputs outputs phases pending found used effective layer
     → used < length (g .schedule) → said ≡ eventOf (getD (g .schedule) used 0) → said ≡ e
-    → Turn g distances parents left right values inputs outputs phases busy used effective layer e
+    → Turn g distances parents left right values inputs outputs phases pending found used effective layer e
 turn-of going below decoded told = record { going = going; below = below; event = sym decoded ∙ told }
 
 -- a place of eight, as bytes of so many each

@@ -7,11 +7,13 @@ use native.Mathlib.Omega.{arith}
 use lib.ListN.{length, set, replicate}
 use Rattle.numbers.specs.Numbers.{maxWorkers}
 use Rattle.pennant.specs.Bag.{Bag, emptyBag}
-use Rattle.pennant.specs.Held.{one}
+use Rattle.pennant.specs.Held.{size, one}
+use Rattle.pennant.proofs.Laws.{weigh-insert, weigh-empty}
 use Rattle.bag.specs.declared.Bag as declared
 use Rattle.bag.specs.Nodes.{newBag}
 use Rattle.bag.specs.Promises.{Moved}
 use Rattle.bag.proofs.Family.{moved-pool}
+use Rattle.bag.proofs.HeldFacts.{held-none}
 use Rattle.model.specs.Paths.{Labels}
 use Rattle.model.specs.State as model
 use Rattle.model.specs.State.{openingState}
@@ -22,7 +24,7 @@ use Rattle.workers.specs.declared.Phase.{Phase}
 use Rattle.workers.specs.Shown.{stateOf}
 use Rattle.workers.specs.Steps.{firstOfEight, allFree}
 use Rattle.workers.proofs.BagsFacts.{bagsOf}
-use Rattle.workers.proofs.OpenedFacts.{opened-workers, opened-moved, opened-unheld, opened-free}
+use Rattle.workers.proofs.OpenedFacts.{opened-workers, opened-moved, opened-size, opened-unheld, opened-free}
 use Rattle.engine.specs.Runs.{Runnable}
 use Rattle.engine.proofs.PlayingFacts.{Given, Ready, Going}
 
@@ -70,7 +72,7 @@ module _ {source P : ℕ} {schedule offsets targets distances parents left right
     pub start-on : {b none : declared.Bag} {inputs outputs : List declared.Bag} {phases : List Phase}
         → FirstLayer P source distances distances′ parents′ left′ right′ values′ b
         → inputs ≡ firstOfEight b → none ≡ newBag → outputs ≡ firstOfEight none → phases ≡ allFree
-        → Going (givenBy source P schedule offsets targets distances′ left′ right′ values′) distances′ parents′ left′ right′ values′ inputs outputs phases 0 0 0 0
+        → Going (givenBy source P schedule offsets targets distances′ left′ right′ values′) distances′ parents′ left′ right′ values′ inputs outputs phases 1 0 0 0 0
     unfolding play playFrom stateOf openingState
     start-on {b} opened first new bare free = rw (first, bare, new, free) (record {
       ready = start-ready;
@@ -96,7 +98,15 @@ module _ {source P : ℕ} {schedule offsets targets distances parents left right
       pool = moved-pool (opened .pool) moved;
       whole = moved .nodes one ∙ opened .whole ∙ ap (λ (k : ℕ). P * k) (sym (same .of-distances));
       in-rows = λ w here. rw (opened-free w) tt;
-      manned = sym (opened-unheld P some-worker few-workers);
+      waiting = omega (
+        arith,
+        opened-size P some-worker few-workers left′ right′ values′ b,
+        ap size (opened .held),
+        weigh-insert one source emptyBag,
+        weigh-empty one,
+        opened-unheld P some-worker few-workers,
+      );
+      stowed = omega (arith, opened-size P some-worker few-workers left′ right′ values′ newBag, ap size (held-none left′ right′ values′), weigh-empty one);
     })
       where
         some-worker : 1 ≤ P

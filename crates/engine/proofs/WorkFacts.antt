@@ -5,22 +5,23 @@ use mathlib.Core.Logic.{_⊎_}
 use mathlib.Core.List.{List, [], _∷_, map, map-append}
 use mathlib.Core.Option.{Option, none, some}
 use Prim.Native.Nat.{ℕ, suc, _+_, _-_, _*_, _≤_, _<_}
+use native.Mathlib.Nat.{mul-le-mul}
 use native.Mathlib.Omega.{arith}
 use lib.ListN.{length, getD, set, take, length-set}
 use lib.Seq.{take-set-lt, set-getD}
 use Rattle.lists.specs.Lists.{sumOf, someOne}
-use Rattle.lists.proofs.Sums.{sum-set, sum-append}
+use Rattle.lists.proofs.Sums.{sum-set, sum-at, sum-append}
 use Rattle.lists.proofs.Replaced.{map-set, set-each}
 use Rattle.graph.specs.Steps.{GraphRows}
 use Rattle.graph.proofs.GraphRowsFacts.{offsets-long}
 use Rattle.pennant.specs.Bag.{Bag, emptyBag, isEmpty, takenNumber, bagInsert}
 use Rattle.pennant.specs.Held.{size, one, copies}
-use Rattle.pennant.proofs.Laws.{taken-held, weigh-insert}
+use Rattle.pennant.proofs.Laws.{taken-held, weigh-empty, weigh-insert, weigh-rest}
 use Rattle.bag.specs.declared.Bag as declared
 use Rattle.bag.specs.Nodes.{heldBy, pastBag}
 use Rattle.bag.specs.Promises.{Pooled, Inserted}
 use Rattle.bag.proofs.Family.{same-moved}
-use Rattle.bag.proofs.HeldFacts.{family-room}
+use Rattle.bag.proofs.HeldFacts.{held-shaped, family-room}
 use Rattle.schedule.specs.declared.Event.the-variants.{Work}
 use Rattle.model.specs.State as model
 use Rattle.model.specs.Table.{holdAt, move, afterMove, movedState, act}
@@ -31,17 +32,17 @@ use Rattle.workers.specs.declared.Phase.the-variants.{Free, Named}
 use Rattle.workers.specs.Shown.{crewOf, phaseOf, stateOf}
 use Rattle.workers.specs.Steps.{EdgeOf, InRows, holdFrom, Between, Advanced, BegunFrom, heldOf, orElse}
 use Rattle.workers.proofs.RowFacts.{edge-small, fits-as}
-use Rattle.workers.proofs.MoveFacts.{Moves, rest-none, begun-moves, stowed-moves, advanced-moves, between-others}
+use Rattle.workers.proofs.MoveFacts.{Moves, rest-none, begun-moves, stowed-moves, advanced-moves, between-others, not-between}
 use Rattle.workers.proofs.CrewFacts.{crew-long, crew-set, crew-loads}
 use Rattle.workers.proofs.BagsFacts.{bagsOf, BagsAfter, input-pooled, output-pooled, input-after, output-after}
-use Rattle.workers.proofs.IdleFacts.{busy-few, busy-set, busy-some}
+use Rattle.workers.proofs.IdleFacts.{held-one, busy-set, busy-some}
 use Rattle.engine.proofs.PlayingFacts.{Given, graph, crew, Long, Going, Turn, P, now-state, enough, phases-there, even, held-inputs, held-outputs, shown-phases}
 use Rattle.engine.proofs.PlayingFacts.{input-shown, output-shown, phase-shown, worker-shown, now-fits, layer-low, layer-fits, next-fits, staffed, play-on, unmet-on}
 
-module _ {g : Given} {distances parents left right values : List ℕ} {inputs outputs : List declared.Bag} {phases : List Phase} {busy used effective layer w : ℕ}
-    (turn : Turn g distances parents left right values inputs outputs phases busy used effective layer (Work w)) where
+module _ {g : Given} {distances parents left right values : List ℕ} {inputs outputs : List declared.Bag} {phases : List Phase} {pending found used effective layer w : ℕ}
+    (turn : Turn g distances parents left right values inputs outputs phases pending found used effective layer (Work w)) where
   -- what holds before the byte
-  abbrev at : Going g distances parents left right values inputs outputs phases busy used effective layer
+  abbrev at : Going g distances parents left right values inputs outputs phases pending found used effective layer
   at = turn .going
 
   -- the worker is there
@@ -88,7 +89,7 @@ module _ {g : Given} {distances parents left right values : List ℕ} {inputs ou
   input-told told = sym (told left right values (input-pooled (enough at) (at .pool) w here))
 
   -- a free worker with nothing in its bag stays as it is
-  pub rest-on : phase ≡ Free → isEmpty held-input ≡ true → Going g distances parents left right values inputs outputs phases busy (used + 1) effective layer
+  pub rest-on : phase ≡ Free → isEmpty held-input ≡ true → Going g distances parents left right values inputs outputs phases pending found (used + 1) effective layer
   unfolding afterMove
   rest-on free empty =
       unmet-on turn
@@ -115,28 +116,44 @@ module _ {g : Given} {distances parents left right values : List ℕ} {inputs ou
   -- A move that was made.
 
   -- the worker's bags and phase, and the lists, after it
-  pub record Worked (distances′ parents′ left′ right′ values′ : List ℕ) (inputs′ outputs′ : List declared.Bag) (next : Phase) : Type 0 where
+  pub record Worked (distances′ parents′ left′ right′ values′ : List ℕ) (inputs′ outputs′ : List declared.Bag) (next : Phase) (found′ : ℕ) : Type 0 where
     pub input′ : Bag
     pub output′ : Bag
     pub moves : Moves (g .offsets) (g .targets) layer distances parents held-input held-output phase distances′ parents′ input′ output′ next
     pub bags : BagsAfter (g .workers) inputs outputs left right left′ right′ values′ inputs′ outputs′
         (set (held-inputs at) w input′) (set (held-outputs at) w output′)
     pub long : Long g distances′ parents′ left′ right′ values′ inputs′ outputs′ phases
+    -- the vertex that it takes or holds is one of those pending
+    pub taken : size input′ + 1 ≡ size held-input + heldOf phase
+    -- so many more are in its output bag
+    pub found-more : found′ + size held-output ≡ found + size output′
 
-  -- a worker that holds a vertex is counted, and no more are than there are
-  pub recount-able : (heldOf phase ≤ busy) × (busy ≤ 8)
-  recount-able =
-      let there = phases-there at in (
-        omega (arith, at .manned, busy-some phases (g .workers) there w here),
-        omega (arith, at .manned, busy-few phases (g .workers) there, at .ready .accepted .few-workers),
+  -- worker w among those there are
+  inputs-inside : w < length (held-inputs at)
+  inputs-inside = omega (arith, even at .inputs-long, here)
+
+  outputs-inside : w < length (held-outputs at)
+  outputs-inside = omega (arith, even at .outputs-long, here)
+
+  -- so some vertex is pending
+  pub some-pending : {distances′ parents′ left′ right′ values′ : List ℕ} {inputs′ outputs′ : List declared.Bag} {next : Phase} {found′ : ℕ}
+      → Worked distances′ parents′ left′ right′ values′ inputs′ outputs′ next found′ → 1 ≤ pending
+  some-pending worked =
+      omega (
+        arith,
+        at .waiting,
+        worked .taken,
+        sum-at size (held-inputs at) w emptyBag (weigh-empty one),
+        ap size (input-shown at w here),
+        busy-some phases (g .workers) (phases-there at) w here,
       )
 
   -- the run goes on
-  pub worked-on : {distances′ parents′ left′ right′ values′ : List ℕ} {inputs′ outputs′ : List declared.Bag} {next : Phase} {busy′ : ℕ}
-      → Worked distances′ parents′ left′ right′ values′ inputs′ outputs′ next → busy′ + heldOf phase ≡ busy + heldOf next
-      → Going g distances′ parents′ left′ right′ values′ inputs′ outputs′ (set phases w next) busy′ (used + 1) (effective + 1) layer
+  pub worked-on : {distances′ parents′ left′ right′ values′ : List ℕ} {inputs′ outputs′ : List declared.Bag} {next : Phase} {found′ : ℕ} (done : ℕ)
+      → Worked distances′ parents′ left′ right′ values′ inputs′ outputs′ next found′ → done + heldOf next ≡ 1
+      → Going g distances′ parents′ left′ right′ values′ inputs′ outputs′ (set phases w next) (pending - done) found′ (used + 1) (effective + 1) layer
   unfolding afterMove orElse stateOf
-  worked-on {distances′} {parents′} {left′} {right′} {values′} {inputs′} {outputs′} {next} {busy′} worked recounted =
+  worked-on {distances′} {parents′} {left′} {right′} {values′} {inputs′} {outputs′} {next} done worked told =
       play-on turn
       (record {
         distances-long = worked .long .distances-long;
@@ -151,7 +168,25 @@ module _ {g : Given} {distances parents left right values : List ℕ} {inputs ou
       (worked .bags .moved)
       (set-each (InRows (g .offsets) (g .vertices)) (λ j. j < g .workers) phases w next Free
       (rw (at .long .distances-long) at (worked .moves .in-rows)) (at .in-rows))
-      (omega (arith, at .manned, recounted, busy-set phases (g .workers) (phases-there at) w here next))
+      (omega (
+        arith,
+        at .waiting,
+        told,
+        worked .taken,
+        some-pending worked,
+        ap (sumOf size) (worked .bags .inputs-held),
+        sum-set size (held-inputs at) w (worked .input′) emptyBag inputs-inside,
+        ap size (input-shown at w here),
+        busy-set phases (g .workers) (phases-there at) w here next,
+      ))
+      (omega (
+        arith,
+        at .stowed,
+        worked .found-more,
+        ap (sumOf size) (worked .bags .outputs-held),
+        sum-set size (held-outputs at) w (worked .output′) emptyBag outputs-inside,
+        ap size (output-shown at w here),
+      ))
       (sym (ap someOne made))
       (ap (λ (ws : List model.Worker). record { labels = labelsOf distances′ parents′; workers = ws; layer = layer; finished = false }) crew-after
       ∙ sym (ap (λ (o : Option model.State). orElse o (now-state at)) made))
@@ -180,10 +215,15 @@ module _ {g : Given} {distances parents left right values : List ℕ} {inputs ou
   output-back : set (held-outputs at) w held-output ≡ held-outputs at
   output-back = ap (set (held-outputs at) w) (sym (output-shown at w here)) ∙ set-getD (held-outputs at) w emptyBag
 
+  -- a phase that is free counts for nothing
+  free-none : heldOf Free ≡ 0
+  unfolding heldOf
+  free-none = refl
+
   -- `begin`
   pub begun-worked : phase ≡ Free → isEmpty held-input ≡ false → {left′ : List ℕ} {rest : declared.Bag} {next : Phase}
       → BegunFrom input (g .offsets) left right values left′ rest next
-      → Worked distances parents left′ right values (set inputs w rest) outputs next
+      → Worked distances parents left′ right values (set inputs w rest) outputs next found
   begun-worked free filled {left′} {rest} {next} begun = record {
     input′ = heldBy left′ right values rest;
     output′ = held-output;
@@ -200,6 +240,8 @@ module _ {g : Given} {distances parents left right values : List ℕ} {inputs ou
       outputs-long = at .long .outputs-long;
       phases-long = at .long .phases-long;
     };
+    taken = omega (arith, ap heldOf free, free-none, ap size (begun .taken .held), weigh-rest one held-input (held-shaped left right values input) filled);
+    found-more = refl;
   }
     where
       ground : GraphRows (g .offsets) (g .targets) (length distances)
@@ -247,6 +289,18 @@ module _ {g : Given} {distances parents left right values : List ℕ} {inputs ou
           ap (λ (k : ℕ). g .workers * k) (at .ready .rows .count),
         ))
 
+    -- one more is counted in a word
+    pub found-fits : found + 1 < 18446744073709551616
+    found-fits =
+        omega (
+          arith,
+          at .stowed,
+          stow-held,
+          crew-loads (held-inputs at) (held-outputs at) (shown-phases at) (even at),
+          ap (λ (k : ℕ). g .workers * k) (at .ready .rows .count),
+          mul-le-mul (at .ready .accepted .few-workers) (at .ready .rows .few-vertices),
+        )
+
     -- what `stow` takes for granted
     pub stow-able : (e + 1 < 65536) × (Pooled left right (output ∷ []) × ((length left ≤ length values) × (getD left 0 0 ≡ 0 → ⊥)))
     stow-able = (
@@ -261,7 +315,7 @@ module _ {g : Given} {distances parents left right values : List ℕ} {inputs ou
     pub stowed-worked : {left′ right′ values′ : List ℕ} {more : declared.Bag} {next : Phase}
         → Inserted left right values output t left′ right′ values′ more
         → ((offsets : List ℕ) → f ≡ getD offsets (u + 1) 0 → next ≡ holdFrom offsets u (e + 1))
-        → Worked distances parents left′ right′ values′ inputs (set outputs w more) next
+        → Worked distances parents left′ right′ values′ inputs (set outputs w more) next (found + 1)
     stowed-worked {left′} {right′} {values′} {more} {next} inserted passed = record {
       input′ = held-input;
       output′ = heldBy left′ right′ values′ more;
@@ -278,6 +332,8 @@ module _ {g : Given} {distances parents left right values : List ℕ} {inputs ou
         outputs-long = length-set outputs w more ∙ at .long .outputs-long;
         phases-long = at .long .phases-long;
       };
+      taken = omega (arith, ap heldOf named, held-one (Named u e f t) (λ (same : Named u e f t ≡ Free). let z : _≡_ {A = ℕ} 0 1 = cc in omega arith));
+      found-more = omega (arith, ap size (inserted .held), weigh-insert one t held-output);
     }
       where
         ground : GraphRows (g .offsets) (g .targets) (length distances)
@@ -298,11 +354,11 @@ module _ {g : Given} {distances parents left right values : List ℕ} {inputs ou
   advance-able between = (at .long .parents-long ∙ sym (at .long .distances-long), (layer-fits at, between))
 
   -- `advance`
-  pub advanced-worked : {distances′ parents′ : List ℕ} {next : Phase}
+  pub advanced-worked : {distances′ parents′ : List ℕ} {next : Phase} → Between (g .targets) (length distances) phase
       → ((offsets : List ℕ) → GraphRows offsets (g .targets) (length distances) → layer < length distances → InRows offsets (length distances) phase
       → Advanced phase layer offsets (g .targets) distances parents distances′ parents′ next)
-      → Worked distances′ parents′ left right values inputs outputs next
-  advanced-worked {distances′} {parents′} {next} promised = record {
+      → Worked distances′ parents′ left right values inputs outputs next found
+  advanced-worked {distances′} {parents′} {next} between promised = record {
     input′ = held-input;
     output′ = held-output;
     moves = advanced-moves held-input held-output advanced;
@@ -317,6 +373,8 @@ module _ {g : Given} {distances parents left right values : List ℕ} {inputs ou
       outputs-long = at .long .outputs-long;
       phases-long = at .long .phases-long;
     };
+    taken = omega (arith, held-one phase (λ free. not-between (g .targets) (length distances) free (λ never. never) between));
+    found-more = refl;
   }
     where
       advanced : Advanced phase layer (g .offsets) (g .targets) distances parents distances′ parents′ next

@@ -8,15 +8,14 @@ use opening::open;
 use schedule::Event;
 use workers::Phase;
 use workers::advance;
-use workers::all_empty;
 use workers::all_free;
 use workers::begin;
 use workers::first_of_eight;
 use workers::gather;
-use workers::recount;
 use workers::split;
 use workers::stow;
 use workers::unite;
+use workers::used_up;
 
 // The run's answer.
 fn conclude(number: usize, used: usize, effective: usize, layer: u16) -> Answer
@@ -30,8 +29,9 @@ fn conclude(number: usize, used: usize, effective: usize, layer: u16) -> Answer
     }
 }
 
-// Plays the schedule. `busy` counts the workers that hold a vertex, so that most closes whose
-// condition isn't met are told without a look at any of them.
+// Plays the schedule. `pending` counts what is left to do in the layer: the numbers in the input bags
+// and the workers that hold a vertex. `found` counts the numbers in the output bags. So a close is told
+// whether its condition is met, and whether the united bag is empty, without a look at a bag.
 pub fn run(
     source: u16,
     workers: usize,
@@ -57,7 +57,8 @@ pub fn run(
     let mut inputs = first_of_eight(source_bag);
     let mut outputs = first_of_eight(bag::empty());
     let mut phases = all_free();
-    let mut busy = 0;
+    let mut pending = 1;
+    let mut found = 0;
     let mut used = 0;
     let mut effective = 0;
     let mut layer: u16 = 0;
@@ -85,12 +86,13 @@ pub fn run(
                     let stowed = stow(outputs[w], vertex, edge, end, target, left, right, values);
                     let more = stowed.output;
                     outputs[w] = more;
+                    found += 1;
                     stowed.phase
                 } else {
                     advance(phase, layer, targets, distances, parents)
                 };
                 phases[w] = next;
-                busy = recount(busy, phase, next);
+                pending -= used_up(next);
                 effective += 1;
             }
             Event::Split { taker: w, giver: v } => {
@@ -116,21 +118,20 @@ pub fn run(
                 effective += 1;
             }
             Event::Close => {
-                if busy != 0 {
+                if pending != 0 {
                     continue;
                 }
-                if !all_empty(inputs, workers) {
-                    continue;
-                }
-                let united = gather(inputs[0], outputs, workers, left, right);
                 // "d grows by 1", unless the search is finished; the close is effective either way.
                 let next = layer + 1;
                 let counted = effective + 1;
-                if bag::is_empty(united) {
+                if found == 0 {
                     return conclude(numbers::SUCCESS, used, counted, layer);
                 }
+                let united = gather(inputs[0], outputs, workers, left, right);
                 layer = next;
                 effective = counted;
+                pending = found;
+                found = 0;
                 inputs = first_of_eight(united);
                 outputs = first_of_eight(bag::empty());
                 phases = all_free();

@@ -21,9 +21,10 @@ use Rattle.bag.proofs.HeldFacts.{held-bare}
 use Rattle.model.specs.State as model
 use Rattle.model.specs.Table.{unitedOutputs}
 use Rattle.workers.specs.Shown.{crewOf}
-use Rattle.workers.specs.Steps.{allEmpty, Gathered}
+use Rattle.workers.specs.Steps.{Gathered}
 use Rattle.workers.proofs.CrewFacts.{Even, crew-at, crew-outputs}
 use Rattle.workers.proofs.BagsFacts.{bagsOf, Enough}
+use Rattle.workers.proofs.IdleFacts.{allEmpty}
 
 -- the numbers held by the first bag and the first w others, united in order
 abbrev unitedUpTo : declared.Bag → List declared.Bag → List ℕ → List ℕ → List ℕ → ℕ → Bag

@@ -1,27 +1,26 @@
--- Which workers hold a vertex, whether all input bags are empty, and that both together are the table's test for a close.
-use mathlib.Core.Path.{_≡_, refl, ap, _∙_}
-use mathlib.Core.Bool.{Bool, true, false, _&&_, and-false}
+-- How many workers hold a vertex and how many numbers are in bags: the table's test for a close by these counts.
+use mathlib.Core.Path.{_≡_, refl, sym, ap, _∙_}
+use mathlib.Core.Bool.{Bool, true, false, _&&_}
 use mathlib.Core.Logic.{⊎-elim}
-use mathlib.Core.List.{List, [], _∷_, map}
-use Prim.Native.Nat.{ℕ, suc, _+_, _≤_, _<_}
-use native.Mathlib.Numerals.{add-one}
+use mathlib.Core.List.{List, [], _∷_, map, foldl}
+use Prim.Native.Nat.{ℕ, zero, suc, _+_, _≤_, _<_}
+use native.Mathlib.Nat.{zero-add}
 use native.Mathlib.Omega.{arith}
+use borrow.Author.Tests.{eq-eqb, ne-eqb}
 use types.Run.{OneOf}
-use lib.ListN.{length, getD, set, take, drop, length-map, drop-of-length-le}
-use lib.Seq.{drop-cons, length-take-le, getD-take, take-set-lt}
+use lib.Dec.{eqb}
+use lib.ListN.{length, getD, set, take}
+use lib.Seq.{length-take-le, getD-take, take-set-lt}
 use Rattle.lists.specs.Lists.{sumOf}
-use Rattle.lists.proofs.Sums.{sum-set, sum-within}
-use Rattle.lists.proofs.Replaced.{map-at}
-use Rattle.pennant.specs.Bag.{Bag, emptyBag, isEmpty}
-use Rattle.bag.specs.declared.Bag as declared
-use Rattle.bag.specs.Nodes.{heldBy, pastBag}
-use Rattle.bag.specs.Promises.{Pooled}
-use Rattle.bag.proofs.Family.{pool-one}
+use Rattle.lists.proofs.Sums.{sum-set}
+use Rattle.pennant.specs.Bag.{Bag, isEmpty, bagUnion}
+use Rattle.pennant.specs.Held.{size, one}
+use Rattle.pennant.proofs.Laws.{empty-size, weigh-union}
 use Rattle.model.specs.Table.{isFree, allIdle}
 use Rattle.workers.specs.declared.Phase.{Phase}
 use Rattle.workers.specs.declared.Phase.the-variants.{Free, Holding, InHand, Marked, Named}
 use Rattle.workers.specs.Shown.{crewOf, phaseOf}
-use Rattle.workers.specs.Steps.{heldOf, allEmpty}
+use Rattle.workers.specs.Steps.{heldOf}
 
 -- One phase.
 
@@ -40,22 +39,9 @@ held-told tag none phase told free =
     ⊎-elim (λ e. omega (arith, ap tag free))
     (λ k. ⊎-elim (λ e. omega (arith, ap tag free)) (λ k. ⊎-elim (λ e. omega (arith, ap tag free)) (λ e. omega (arith, ap tag free)) k) k) told
 
--- it counts 1 at most
-pub held-few : (phase : Phase) → heldOf phase ≤ 1
-unfolding heldOf
-held-few Free = omega arith
-held-few (Holding u e f) = omega arith
-held-few (InHand u e f t) = omega arith
-held-few (Marked u e f t) = omega arith
-held-few (Named u e f t) = omega arith
-
 -- All phases.
 
 module _ (phases : List Phase) (P : ℕ) (there : P ≤ length phases) where
-  -- no more count than there are
-  pub busy-few : sumOf heldOf (take P phases) ≤ P
-  busy-few = omega (arith, sum-within heldOf 1 held-few (take P phases), length-take-le P phases there)
-
   module _ (w : ℕ) (below : w < P) where
     -- worker w among the first P
     inside : w < length (take P phases)
@@ -75,72 +61,45 @@ module _ (phases : List Phase) (P : ℕ) (there : P ≤ length phases) where
     unfolding heldOf
     busy-some = omega (arith, busy-set Free)
 
--- where none counts, all are idle if their input bags are empty
-pub idle-as : (offsets : List ℕ) (inputs outputs : List Bag) (phases : List Phase) → length outputs ≡ length inputs → length phases ≡ length inputs
-    → sumOf heldOf phases ≡ 0 → allIdle (crewOf inputs outputs (map (phaseOf offsets) phases)) ≡ allEmpty inputs
-unfolding crewOf phaseOf allIdle isFree allEmpty heldOf sumOf
-idle-as offsets [] outputs phases h k none = refl
-idle-as offsets (a ∷ inputs) [] phases h k none = absurd (omega arith)
-idle-as offsets (a ∷ inputs) (b ∷ outputs) [] h k none = absurd (omega arith)
-idle-as offsets (a ∷ inputs) (b ∷ outputs) (Free ∷ phases) h k none =
-    ap (λ (x : Bool). isEmpty a && x) (idle-as offsets inputs outputs phases (omega arith) (omega arith) (omega arith))
-idle-as offsets (a ∷ inputs) (b ∷ outputs) (Holding u e f ∷ phases) h k none = absurd (omega arith)
-idle-as offsets (a ∷ inputs) (b ∷ outputs) (InHand u e f t ∷ phases) h k none = absurd (omega arith)
-idle-as offsets (a ∷ inputs) (b ∷ outputs) (Marked u e f t ∷ phases) h k none = absurd (omega arith)
-idle-as offsets (a ∷ inputs) (b ∷ outputs) (Named u e f t ∷ phases) h k none = absurd (omega arith)
+-- both sums are 0 exactly where their sum is
+zero-both : (m n : ℕ) → (eqb m 0 && eqb n 0) ≡ eqb (m + n) 0
+zero-both zero n = ap (λ (k : ℕ). eqb k 0) (sym (zero-add n))
+zero-both (suc m) n = rw (ne-eqb (suc m) 0 (λ q. omega arith), ne-eqb (suc m + n) 0 (λ q. omega arith))
 
--- where one counts, not all are
-pub idle-some : (offsets : List ℕ) (inputs outputs : List Bag) (phases : List Phase) → length outputs ≡ length inputs → length phases ≡ length inputs
-    → (sumOf heldOf phases ≡ 0 → ⊥) → allIdle (crewOf inputs outputs (map (phaseOf offsets) phases)) ≡ false
+-- a sum with a 1 in it is not 0
+one-counts : (m n : ℕ) → false ≡ eqb (m + (1 + n)) 0
+one-counts m n = sym (ne-eqb (m + (1 + n)) 0 (λ q. omega arith))
+
+-- all are idle where neither a bag has a number nor a phase counts
+pub idle-counted : (offsets : List ℕ) (inputs outputs : List Bag) (phases : List Phase) → length outputs ≡ length inputs → length phases ≡ length inputs
+    → allIdle (crewOf inputs outputs (map (phaseOf offsets) phases)) ≡ eqb (sumOf size inputs + sumOf heldOf phases) 0
 unfolding crewOf phaseOf allIdle isFree heldOf sumOf
-idle-some offsets [] outputs [] h k some = absurd (some refl)
-idle-some offsets [] outputs (p ∷ phases) h k some = absurd (omega arith)
-idle-some offsets (a ∷ inputs) [] phases h k some = absurd (omega arith)
-idle-some offsets (a ∷ inputs) (b ∷ outputs) [] h k some = absurd (omega arith)
-idle-some offsets (a ∷ inputs) (b ∷ outputs) (Free ∷ phases) h k some =
-    ap (λ (x : Bool). isEmpty a && x) (idle-some offsets inputs outputs phases (omega arith) (omega arith) (λ none. some (omega arith)))
-    ∙ and-false (isEmpty a)
-idle-some offsets (a ∷ inputs) (b ∷ outputs) (Holding u e f ∷ phases) h k some = refl
-idle-some offsets (a ∷ inputs) (b ∷ outputs) (InHand u e f t ∷ phases) h k some = refl
-idle-some offsets (a ∷ inputs) (b ∷ outputs) (Marked u e f t ∷ phases) h k some = refl
-idle-some offsets (a ∷ inputs) (b ∷ outputs) (Named u e f t ∷ phases) h k some = refl
+idle-counted offsets [] outputs [] h k = refl
+idle-counted offsets [] outputs (p ∷ phases) h k = absurd (omega arith)
+idle-counted offsets (a ∷ inputs) [] phases h k = absurd (omega arith)
+idle-counted offsets (a ∷ inputs) (b ∷ outputs) [] h k = absurd (omega arith)
+idle-counted offsets (a ∷ inputs) (b ∷ outputs) (Free ∷ phases) h k =
+    let all : size a + (sumOf size inputs + sumOf heldOf phases) ≡ size a + sumOf size inputs + (0 + sumOf heldOf phases) = omega arith in
+    rw (empty-size a, idle-counted offsets inputs outputs phases (omega arith) (omega arith), zero-both (size a) (sumOf size inputs + sumOf heldOf phases))
+    (ap (λ (n : ℕ). eqb n 0) all)
+idle-counted offsets (a ∷ inputs) (b ∷ outputs) (Holding u e f ∷ phases) h k = one-counts (size a + sumOf size inputs) (sumOf heldOf phases)
+idle-counted offsets (a ∷ inputs) (b ∷ outputs) (InHand u e f t ∷ phases) h k = one-counts (size a + sumOf size inputs) (sumOf heldOf phases)
+idle-counted offsets (a ∷ inputs) (b ∷ outputs) (Marked u e f t ∷ phases) h k = one-counts (size a + sumOf size inputs) (sumOf heldOf phases)
+idle-counted offsets (a ∷ inputs) (b ∷ outputs) (Named u e f t ∷ phases) h k = one-counts (size a + sumOf size inputs) (sumOf heldOf phases)
 
--- All input bags, one after the other.
+-- bags that all are empty
+unfoldable pub allEmpty : List Bag → Bool
+allEmpty [] = true
+allEmpty (b ∷ bags) = isEmpty b && allEmpty bags
 
--- those from w on are empty if this one is and those after it
-empty-next : (bags : List Bag) (w : ℕ) → w < length bags → allEmpty (drop w bags) ≡ (isEmpty (getD bags w emptyBag) && allEmpty (drop (suc w) bags))
-unfolding allEmpty
-empty-next bags w h = ap allEmpty (drop-cons bags w emptyBag h)
+-- they are where no number is in them
+pub bare-counted : (bags : List Bag) → sumOf size bags ≡ 0 → allEmpty bags ≡ true
+unfolding allEmpty sumOf
+bare-counted [] none = refl
+bare-counted (b ∷ bags) none = rw (empty-size b, eq-eqb (size b) 0 (omega arith)) (bare-counted bags (omega arith))
 
--- past the last there is none
-empty-none : (bags : List Bag) (w : ℕ) → length bags ≤ w → allEmpty (drop w bags) ≡ true
-unfolding allEmpty
-empty-none bags w h = ap allEmpty (drop-of-length-le bags h)
-
-module _ (inputs : List declared.Bag) (P : ℕ) (there : P ≤ length inputs) (left right values : List ℕ) (pool : Pooled left right (take P inputs)) where
-  -- what the first P hold
-  abbrev held-all : List Bag
-  held-all = map (heldBy left right values) (take P inputs)
-
-  -- as many
-  held-long : length held-all ≡ P
-  held-long = length-map (take P inputs) (heldBy left right values) ∙ length-take-le P inputs there
-
-  module _ (w : ℕ) (below : w < P) where
-    -- one of them
-    pub one-pooled : Pooled left right (getD inputs w pastBag ∷ [])
-    one-pooled = rw (getD-take P inputs w pastBag below) at (pool-one (take P inputs) w pool (omega (arith, length-take-le P inputs there)))
-
-    one-held : getD held-all w emptyBag ≡ heldBy left right values (getD inputs w pastBag)
-    one-held =
-        map-at (heldBy left right values) (take P inputs) w pastBag emptyBag (omega (arith, length-take-le P inputs there))
-        ∙ ap (heldBy left right values) (getD-take P inputs w pastBag below)
-
-    -- the next is empty, or not
-    pub empty-step : {b : Bool} → b ≡ isEmpty (heldBy left right values (getD inputs w pastBag))
-        → allEmpty (drop w held-all) ≡ (b && allEmpty (drop (w + 1) held-all))
-    empty-step told = rw (told, ← one-held, add-one) (empty-next held-all w (rw held-long below))
-
-  -- past the last
-  pub empty-end : (w : ℕ) → P ≤ w → allEmpty (drop w held-all) ≡ true
-  empty-end w past = empty-none held-all w (rw held-long past)
+-- bags that are united one after the other hold what they all hold
+pub united-size : (b : Bag) (bags : List Bag) → size (foldl bagUnion b bags) ≡ size b + sumOf size bags
+unfolding sumOf
+united-size b [] = omega arith
+united-size b (c ∷ bags) = omega (arith, united-size (bagUnion b c) bags, weigh-union one b c)

@@ -10,8 +10,10 @@ use Rattle.numbers.specs.Numbers.{maxWorkers}
 use Rattle.lists.specs.Lists.{sumOf}
 use Rattle.lists.proofs.Parts.{getD-repeated, take-repeated, set-alike}
 use Rattle.lists.proofs.Replaced.{map-set, map-repeated}
-use Rattle.lists.proofs.Sums.{sum-replicate}
+use Rattle.lists.proofs.Sums.{sum-replicate, sum-first}
 use Rattle.pennant.specs.Bag.{Bag, emptyBag}
+use Rattle.pennant.specs.Held.{size, one}
+use Rattle.pennant.proofs.Laws.{weigh-empty}
 use Rattle.bag.specs.declared.Bag as declared
 use Rattle.bag.specs.Nodes.{heldBy, newBag}
 use Rattle.bag.specs.Promises.{weighNodes, Formed, Pooled, Moved}
@@ -75,6 +77,14 @@ module _ (P : ℕ) (some-worker : 1 ≤ P) (few-workers : P ≤ maxWorkers) wher
     where
       both : bagsOf P (firstOfEight b) (firstOfEight newBag) ≡ set (replicate P newBag) 0 b ++ replicate P newBag
       both = ap₂ (λ (l k : List declared.Bag). l ++ k) (first-taken b) none-taken
+
+  -- they hold what the one bag holds
+  pub opened-size : (left right values : List ℕ) (b : declared.Bag)
+      → sumOf size (map (heldBy left right values) (take P (firstOfEight b))) ≡ size (heldBy left right values b)
+  opened-size left right values b =
+      rw (first-taken b, map-set (heldBy left right values) (replicate P newBag) 0 b, map-repeated (heldBy left right values) P newBag, held-none left right values)
+      (sum-first size emptyBag (replicate P emptyBag) (heldBy left right values b) (rw length-replicate some-worker)
+      (λ i. ap size (getD-repeated P i emptyBag) ∙ weigh-empty one))
 
   -- none of them holds a vertex
   pub opened-unheld : sumOf heldOf (take P allFree) ≡ 0

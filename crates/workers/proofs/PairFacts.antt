@@ -3,11 +3,13 @@ use mathlib.Core.Path.{_≡_, refl, sym, ap, _∙_}
 use mathlib.Core.Bool.{Bool, true, false, cond, not, _&&_, and-eq-true-iff, true≢false}
 use mathlib.Core.List.{List, [], _∷_}
 use mathlib.Core.Option.{Option, none, some}
-use Prim.Native.Nat.{ℕ}
+use Prim.Native.Nat.{ℕ, _+_}
 use native.Mathlib.Omega.{arith}
 use lib.ListN.{getD, set}
 use Rattle.graph.specs.Graph.{Graph}
 use Rattle.pennant.specs.Bag.{Bag, isEmpty, atLeastTwo, emptyBag, bagUnion, splitFirst, splitSecond}
+use Rattle.pennant.specs.Held.{size, one}
+use Rattle.pennant.proofs.Laws.{weigh-split, weigh-union, weigh-empty, empty-weighs}
 use Rattle.bag.specs.declared.Bag as declared
 use Rattle.bag.specs.Nodes.{heldBy, newBag}
 use Rattle.bag.specs.Promises.{Pooled, SplitInto, United}
@@ -98,6 +100,29 @@ module _ {giver taker : declared.Bag} {left right : List ℕ} (pool : Pooled lef
     same-left = met-only;
     same-right = met-only;
   })
+
+-- Both keep how many numbers the two bags have.
+
+-- by a condition, if what is made where it is met has as many
+exchange-size : (met : Bool) (made old : Bag × Bag) → (met ≡ true → size (made .0) + size (made .1) ≡ size (old .0) + size (old .1))
+    → size (orElse (cond met (some made) none) old .0) + size (orElse (cond met (some made) none) old .1) ≡ size (old .0) + size (old .1)
+unfolding orElse
+exchange-size true made old same = same refl
+exchange-size false made old same = refl
+
+pub split-size : (taker giver : Bag) → size (orElse (splitRule taker giver) (taker, giver) .0) + size (orElse (splitRule taker giver) (taker, giver) .1)
+    ≡ size taker + size giver
+unfolding splitRule
+split-size taker giver =
+    exchange-size (isEmpty taker && atLeastTwo giver) (splitSecond giver, splitFirst giver) (taker, giver)
+    (λ met. omega (arith, weigh-split one giver, empty-weighs one taker (and-eq-true-iff (isEmpty taker) (atLeastTwo giver) .0 met .0)))
+
+pub unite-size : (giver taker : Bag) → size (orElse (uniteRule giver taker) (giver, taker) .0) + size (orElse (uniteRule giver taker) (giver, taker) .1)
+    ≡ size giver + size taker
+unfolding uniteRule
+unite-size giver taker =
+    exchange-size (not (isEmpty giver) && not (isEmpty taker)) (emptyBag, bagUnion taker giver) (giver, taker)
+    (λ met. omega (arith, weigh-union one taker giver, weigh-empty one))
 
 -- The table's kinds 1 and 2, of workers whose bags and phases stand in three lists.
 

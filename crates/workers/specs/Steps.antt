@@ -1,7 +1,7 @@
 -- What the steps of the search take for granted and what they promise: one worker's move, two workers' exchange, the close. A prime marks what
 -- stands there afterwards. No outside contract cites these.
 use mathlib.Core.Path.{_≡_}
-use mathlib.Core.Bool.{Bool, true, false, cond, not, _&&_}
+use mathlib.Core.Bool.{Bool, false, cond, not, _&&_}
 use mathlib.Core.List.{List, [], _∷_, map, foldl}
 use mathlib.Core.Option.{Option, none, some}
 use Prim.Native.Nat.{ℕ, _+_, _≤_, _<_}
@@ -109,11 +109,6 @@ heldOf (Holding u e f) = 1
 heldOf (InHand u e f t) = 1
 heldOf (Marked u e f t) = 1
 heldOf (Named u e f t) = 1
-
--- bags that all are empty
-unfoldable pub allEmpty : List Bag → Bool
-allEmpty [] = true
-allEmpty (b ∷ bags) = isEmpty b && allEmpty bags
 
 -- `gather`: bags united in order into a first one
 pub record Gathered (first : declared.Bag) (bags : List declared.Bag) (left right left′ right′ : List ℕ) (bag : declared.Bag) : Type 0 where

@@ -1,52 +1,23 @@
-// All workers: which of them hold a vertex, whether their input bags are empty, the union of their
-// output bags at a close, and their bags and phases as a layer opens.
+// All workers: whether one still holds a vertex, the union of their output bags at a close, and their
+// bags and phases as a layer opens.
 ghost use mathlib.Core.Path.{_≡_};
-ghost use mathlib.Core.List.{List, _∷_, map};
-ghost use Prim.Native.Nat.{ℕ, _+_, _≤_};
+ghost use mathlib.Core.List.{_∷_};
+ghost use Prim.Native.Nat.{_+_, _≤_};
 ghost use lib.ListN.{take};
 ghost use Rattle.numbers.specs.Numbers.{maxWorkers};
-ghost use Rattle.bag.specs.Nodes.{heldBy};
 ghost use Rattle.bag.specs.Promises.{Pooled};
-ghost use Rattle.workers.specs.Steps.{heldOf, allEmpty, Gathered, firstOfEight, allFree};
+ghost use Rattle.workers.specs.Steps.{heldOf, Gathered, firstOfEight, allFree};
 use crate::Phase;
 use bag::Bag;
 
-// 1 for a worker that holds a vertex.
-fn held(phase: Phase) -> usize
-    ensures { λ r. ⌜ r ≡ heldOf phase ⌝ }
-    ensures { λ r. ⌜ r ≤ 1 ⌝ }
+// 1 for a worker that is free after a move: the vertex that it took or held is used up.
+pub fn used_up(next: Phase) -> usize
+    ensures { λ r. ⌜ r + heldOf next ≡ 1 ⌝ }
 {
-    if let Phase::Free = phase {
-        return 0;
+    if let Phase::Free = next {
+        return 1;
     }
-    1
-}
-
-// How many workers hold a vertex, after one of them went from a phase to the next.
-pub fn recount(busy: usize, phase: Phase, next: Phase) -> usize
-    requires { ⌜ heldOf phase ≤ busy ⌝ }
-    requires { ⌜ busy ≤ maxWorkers ⌝ }
-    ensures { λ r. ⌜ r + heldOf phase ≡ busy + heldOf next ⌝ }
-{
-    busy + held(next) - held(phase)
-}
-
-// ".. all input bags empty".
-pub fn all_empty(inputs: [Bag; 8], workers: usize) -> bool
-    requires { ⌜ workers ≤ maxWorkers ⌝ }
-    ensures { λ r. ⌜
-        ((left right values : List ℕ) → Pooled left right (take workers inputs)
-        → r ≡ allEmpty (map (heldBy left right values) (take workers inputs)))
-        ⌝ }
-{
-    let mut w = 0;
-    while w < workers {
-        if !bag::is_empty(inputs[w]) {
-            return false;
-        }
-        w += 1;
-    }
-    true
+    0
 }
 
 // "output bags 0 to P - 1 are united in that order into worker 0's input bag".

@@ -8,11 +8,10 @@ mod crew;
 mod moves;
 mod pairs;
 
-pub use crew::all_empty;
 pub use crew::all_free;
 pub use crew::first_of_eight;
 pub use crew::gather;
-pub use crew::recount;
+pub use crew::used_up;
 pub use moves::advance;
 pub use moves::begin;
 pub use moves::stow;

@@ -10,26 +10,27 @@ use Rattle.workers.proofs.Phase.{the-type}
 use Prim.Native.Nat.{ℕ, _-_, _<_}
 use lib.ListN.{length, getD}
 use Rattle.workers.specs.declared.Phase.the-variants.{Free}
+use Rattle.workers.specs.Steps.{Between}
 use Rattle.schedule.specs.declared.Event.{Event}
 use Rattle.schedule.specs.declared.Event.the-variants.{Work, Split, Unite, Close}
 use Rattle.engine.proofs.PlayingFacts.{Given, Going, Turn, turn-of, place-fits, layer-fits, used-fits, effective-fits, few-workers, malformed-on}
 use Rattle.engine.proofs.StartFacts.{givenBy, SameLengths, source-there, start-on}
-use Rattle.engine.proofs.WorkFacts.{work-place, input-told, rest-on, begin-able, stow-able, between-now, advance-able, recount-able, worked-on}
+use Rattle.engine.proofs.WorkFacts.{work-place, input-told, rest-on, begin-able, stow-able, between-now, advance-able, some-pending, found-fits, worked-on}
 use Rattle.engine.proofs.WorkFacts.{Worked, begun-worked, stowed-worked, advanced-worked}
 use Rattle.engine.proofs.PairFacts.{split-places, split-able, split-on, split-unmet-on, unite-places, unite-able, unite-on, unite-unmet-on}
-use Rattle.engine.proofs.CloseFacts.{busy-on, filled-on, gather-able, opened-on, finished-ran, spent-ran}
+use Rattle.engine.proofs.CloseFacts.{pending-on, gather-able, opened-on, finished-ran, spent-ran}
 use Rattle.engine.proofs.run.run.Statement.{statement}
 use Rattle.engine.proofs.run.run.Tie as tie
 
 abbrev Inv-loop : tie.InvT-loop
-Inv-loop source workers schedule offsets targets distances₀ parents₀ left₀ right₀ values₀ inputs₀ outputs₀ phases₀ busy₀ used₀ effective₀ layer₀
-    distances parents left right values inputs outputs phases busy used effective layer =
+Inv-loop source workers schedule offsets targets distances₀ parents₀ left₀ right₀ values₀ inputs₀ outputs₀ phases₀ pending₀ found₀ used₀ effective₀ layer₀
+    distances parents left right values inputs outputs phases pending found used effective layer =
     Going (givenBy source workers schedule offsets targets distances₀ left₀ right₀ values₀)
-    distances parents left right values inputs outputs phases busy used effective layer
+    distances parents left right values inputs outputs phases pending found used effective layer
 
 abbrev μ-loop : tie.MeasureT-loop
-μ-loop source workers schedule offsets targets distances₀ parents₀ left₀ right₀ values₀ inputs₀ outputs₀ phases₀ busy₀ used₀ effective₀ layer₀
-    distances parents left right values inputs outputs phases busy used effective layer =
+μ-loop source workers schedule offsets targets distances₀ parents₀ left₀ right₀ values₀ inputs₀ outputs₀ phases₀ pending₀ found₀ used₀ effective₀ layer₀
+    distances parents left right values inputs outputs phases pending found used effective layer =
     length schedule - used
 
 -- Places that the needs look back to.
@@ -78,15 +79,12 @@ workers-of-unite c = c .before .before .before .before .before
 abbrev unite-of-test : tie.After-struct-known2 Inv-loop μ-loop → tie.After-unite Inv-loop μ-loop
 unite-of-test c = c .before .before .before .before .before
 
--- a close, from where all input bags were seen to be empty, from the call of `gather` and from what follows it
-abbrev close-of-bare : tie.Else5 Inv-loop μ-loop → tie.After-enum-told2 Inv-loop μ-loop
-close-of-bare c = c .before .before .before
+-- a close, from the call of `gather` and from what follows it
+abbrev found-of-gather : tie.After-gather-arg3 Inv-loop μ-loop → tie.Else5 Inv-loop μ-loop
+found-of-gather c = c .before .before .before
 
-abbrev bare-of-gather : tie.After-gather-arg3 Inv-loop μ-loop → tie.Else5 Inv-loop μ-loop
-bare-of-gather c = c .before .before .before
-
-abbrev gather-of-test : tie.After-slice-known22 Inv-loop μ-loop → tie.After-gather Inv-loop μ-loop
-gather-of-test c = c .before .before .before .before
+abbrev gather-of-united : tie.After-slice-known22 Inv-loop μ-loop → tie.After-gather Inv-loop μ-loop
+gather-of-united c = c .before .before .before .before
 
 -- What is known there.
 
@@ -133,8 +131,8 @@ given c =
 abbrev Turn-at : tie.After-decode Inv-loop μ-loop → Event → Type 0
 Turn-at c e =
     let now = head c .loop in
-    Turn (given (head c)) (now .distances) (now .parents) (now .left) (now .right) (now .values) (now .inputs) (now .outputs) (now .phases) (now .busy)
-    (now .used) (now .effective) (now .layer) e
+    Turn (given (head c)) (now .distances) (now .parents) (now .left) (now .right) (now .values) (now .inputs) (now .outputs) (now .phases) (now .pending)
+    (now .found) (now .used) (now .effective) (now .layer) e
 
 -- by what was decoded
 turn : (c : tie.After-decode Inv-loop μ-loop) {e : Event} → c .decode .result ≡ e → Turn-at c e
@@ -156,23 +154,29 @@ unite-turn c = turn (c .before .before) (c .event3 .given .1)
 close-turn : (c : tie.After-enum-told2 Inv-loop μ-loop) → Turn-at (c .before .before) Close
 close-turn c = turn (c .before .before) (c .enum-told2 .given .1)
 
--- the phase that the worker had, and what its move left, whichever it was: the bags and lists, and its next phase
-moved : (c : tie.At-match2-came Inv-loop μ-loop) → let event = c .before .before .before in
-    let now = head (event .before .before) .loop in
-    let after = c .match2 in
-    (after .phase ≡ getD (now .phases) (event .event .given .0 .0) Free)
-    × Worked (work-turn event) (after .distances) (after .parents) (after .left) (after .right) (after .values) (after .inputs) (after .outputs) (after .next)
+-- a phase that is neither free nor named is one between
+between : (c : tie.At-match3-keys2 Inv-loop μ-loop) → let event = c .before .before .before .before in
+    let at = head (event .before .before) in
+    Between (start (opening (at .before)) .args .targets .now) (length (at .loop .distances)) (getD (at .loop .phases) (event .event .given .0 .0) Free)
+between c =
+    between-now (work-turn (c .before .before .before .before)) (tagOf the-type) refl (λ u e f t. refl) (c .before .match2 .keys2) (c .match3 .keys2)
+
+-- what a worker's move left, whichever it was: the lists, the bags, its next phase, and how many were found
+moved : (c : tie.At-match2-came Inv-loop μ-loop) → let after = c .match2 in
+    Worked (work-turn (c .before .before .before)) (after .distances) (after .parents) (after .left) (after .right) (after .values) (after .inputs)
+    (after .outputs) (after .next) (after .found)
 moved c =
     let worker = work-turn (c .before .before .before) in
     ⊎-elim
     (λ b.
     rw (b .12, b .13, b .14, b .15, b .16, b .17, b .18, b .19, b .20)
-    (refl, begun-worked worker (b .1 .given .1) (input-told worker (b .3 .ensures) ∙ b .4 .left) (b .8 .ensures)))
+    (begun-worked worker (b .1 .given .1) (input-told worker (b .3 .ensures) ∙ b .4 .left) (b .8 .ensures)))
     (⊎-elim
     (λ s.
-    rw (s .16, s .17, s .18, s .19, s .20, s .21, s .22, s .23, s .24)
-    (sym (s .2 .given .1), stowed-worked worker (s .2 .given .1) (s .8 .ensures .0) (s .8 .ensures .1)))
-    (λ a. rw (a .9, a .10, a .11, a .12, a .13, a .14, a .15, a .16, a .17) (refl, advanced-worked worker (a .4 .ensures))))
+    rw (s .16, s .17, s .18, s .19, s .20, s .21, s .22, s .23, s .24) (stowed-worked worker (s .2 .given .1) (s .8 .ensures .0) (s .8 .ensures .1)))
+    (λ a.
+    rw (a .9, a .10, a .11, a .12, a .13, a .14, a .15, a .16, a .17)
+    (advanced-worked worker (between (record { before = record { before = c .before; match2 = a .0 }; match3 = a .1 })) (a .4 .ensures))))
     (c .match2 .came)
 
 -- The needs.
@@ -268,11 +272,15 @@ mul-outputs c = place-fits 32 (work-place (work-turn (phase-of-named (named-of-s
 array-set-from-outputs : tie.Need-array-set-from-outputs Inv-loop μ-loop
 array-set-from-outputs c = work-place (work-turn (phase-of-named (named-of-stow (stow-of-more c)) .before .before))
 
+add-found : tie.Need-add-found Inv-loop μ-loop
+add-found c =
+    let named = named-of-stow (stow-of-more c) in
+    record { fits = found-fits (work-turn (phase-of-named named .before .before)) (named .phase2 .given .1) }
+
 advance-requires : tie.Need-advance-requires Inv-loop μ-loop
 advance-requires c κs =
-    let between = c .before .before in
-    let worker = work-turn (between .before .before .before .before) in
-    advance-able worker (between-now worker (tagOf the-type) refl (λ u e f t. refl) (between .before .match2 .keys2) (between .match3 .keys2))
+    let other = c .before .before in
+    advance-able (work-turn (other .before .before .before .before)) (between other)
 
 mul-phases : tie.Need-mul-phases Inv-loop μ-loop
 mul-phases c = place-fits 32 (work-place (work-turn (c .before .before .before))) (search needs)
@@ -280,8 +288,11 @@ mul-phases c = place-fits 32 (work-place (work-turn (c .before .before .before))
 array-set-from-phases : tie.Need-array-set-from-phases Inv-loop μ-loop
 array-set-from-phases c = work-place (work-turn (c .before .before .before))
 
-recount-requires : tie.Need-recount-requires Inv-loop μ-loop
-recount-requires c κs = rw (moved c .0) (recount-able (work-turn (c .before .before .before)))
+used-up-requires : tie.Need-used-up-requires Inv-loop μ-loop
+used-up-requires c κs = search needs
+
+sub-pending : tie.Need-sub-pending Inv-loop μ-loop
+sub-pending c = omega (arith, c .used-up .ensures, some-pending (work-turn (c .before .before .before .before)) (moved (c .before)))
 
 add-effective : tie.Need-add-effective Inv-loop μ-loop
 add-effective c = record { fits = effective-fits (work-turn (c .before .before .before .before)) }
@@ -292,7 +303,7 @@ loop-less-2 c = omega (arith, head (c .before .before .before .before .before .b
 loop-again-2 : tie.Need-loop-again-2 Inv-loop μ-loop
 loop-again-2 c =
     let came = c .before in
-    worked-on (work-turn (came .before .before .before)) (moved came .1) (rw (← moved came .0) (c .recount .ensures))
+    worked-on (work-turn (came .before .before .before)) (c .used-up .result) (moved came) (c .used-up .ensures)
 
 enum-known-event-2 : tie.Need-enum-known-event-2 Inv-loop μ-loop
 enum-known-event-2 c = search needs
@@ -401,59 +412,44 @@ loop-less-7 : tie.Need-loop-less-7 Inv-loop μ-loop
 loop-less-7 c = search needs
 
 loop-again-7 : tie.Need-loop-again-7 Inv-loop μ-loop
-loop-again-7 c = busy-on (close-turn (c .before)) (c .if4 .taken)
+loop-again-7 c = pending-on (close-turn (c .before)) (c .if4 .taken)
 
-all-empty-requires : tie.Need-all-empty-requires Inv-loop μ-loop
-all-empty-requires c κs = few-workers (close-turn (c .before) .going)
+add-next : tie.Need-add-next Inv-loop μ-loop
+add-next c = record { fits = layer-fits (close-turn (c .before) .going) }
 
-loop-less-8 : tie.Need-loop-less-8 Inv-loop μ-loop
-loop-less-8 c = search needs
+add-counted : tie.Need-add-counted Inv-loop μ-loop
+add-counted c = record { fits = omega (arith, effective-fits (close-turn (c .before))) }
 
-loop-again-8 : tie.Need-loop-again-8 Inv-loop μ-loop
-loop-again-8 c = filled-on (close-turn (c .before .before .before)) (c .before .before .if4 .left) (c .before .all-empty .ensures) (not-true _ (c .if5 .taken))
+conclude-requires : tie.Need-conclude-requires Inv-loop μ-loop
+conclude-requires c κs = search needs
+
+same-length : tie.Need-same-length Inv-loop μ-loop
+same-length c = lengths (head (c .before .before .before .before .before)) .of-distances
+
+same-length-2 : tie.Need-same-length-2 Inv-loop μ-loop
+same-length-2 c = lengths (head (c .before .before .before .before .before)) .of-parents
+
+same-length-3 : tie.Need-same-length-3 Inv-loop μ-loop
+same-length-3 c = lengths (head (c .before .before .before .before .before)) .of-left
+
+same-length-4 : tie.Need-same-length-4 Inv-loop μ-loop
+same-length-4 c = lengths (head (c .before .before .before .before .before)) .of-right
+
+same-length-5 : tie.Need-same-length-5 Inv-loop μ-loop
+same-length-5 c = lengths (head (c .before .before .before .before .before)) .of-values
+
+returns : tie.Need-returns Inv-loop μ-loop
+returns c =
+    let none-pending = c .before .before in
+    finished-ran (close-turn (none-pending .before)) (none-pending .if4 .left) (c .before .if5 .taken) (c .conclude .ensures)
 
 array-copy-out-gather : tie.Need-array-copy-out-gather Inv-loop μ-loop
 array-copy-out-gather c = search needs
 
 gather-requires : tie.Need-gather-requires Inv-loop μ-loop
 gather-requires c κs =
-    let bare = bare-of-gather c in
-    gather-able (close-turn (close-of-bare bare)) (bare .before .before .if4 .left) (bare .before .all-empty .ensures) (not-false _ (bare .if5 .left))
-
-add-next : tie.Need-add-next Inv-loop μ-loop
-add-next c = record { fits = layer-fits (close-turn (close-of-bare (bare-of-gather (gather-of-test c .before))) .going) }
-
-add-counted : tie.Need-add-counted Inv-loop μ-loop
-add-counted c = record { fits = omega (arith, effective-fits (close-turn (close-of-bare (bare-of-gather (gather-of-test c .before))))) }
-
-is-empty-requires-2 : tie.Need-is-empty-requires-2 Inv-loop μ-loop
-is-empty-requires-2 c κs = search needs
-
-conclude-requires : tie.Need-conclude-requires Inv-loop μ-loop
-conclude-requires c κs = search needs
-
-same-length : tie.Need-same-length Inv-loop μ-loop
-same-length c = lengths (head (close-of-bare (bare-of-gather (gather-of-test (c .before .before .before) .before)) .before .before)) .of-distances
-
-same-length-2 : tie.Need-same-length-2 Inv-loop μ-loop
-same-length-2 c = lengths (head (close-of-bare (bare-of-gather (gather-of-test (c .before .before .before) .before)) .before .before)) .of-parents
-
-same-length-3 : tie.Need-same-length-3 Inv-loop μ-loop
-same-length-3 c = gather-of-test (c .before .before .before) .gather .kept .1 .1 .1 .0 ∙ lengths (head (close-of-bare (bare-of-gather (gather-of-test (c .before .before .before) .before)) .before .before)) .of-left
-
-same-length-4 : tie.Need-same-length-4 Inv-loop μ-loop
-same-length-4 c = gather-of-test (c .before .before .before) .gather .kept .1 .1 .1 .1 .0 ∙ lengths (head (close-of-bare (bare-of-gather (gather-of-test (c .before .before .before) .before)) .before .before)) .of-right
-
-same-length-5 : tie.Need-same-length-5 Inv-loop μ-loop
-same-length-5 c = lengths (head (close-of-bare (bare-of-gather (gather-of-test (c .before .before .before) .before)) .before .before)) .of-values
-
-returns : tie.Need-returns Inv-loop μ-loop
-returns c =
-    let test = c .before .before in
-    let gathered = gather-of-test (test .before) in
-    let bare = bare-of-gather (gathered .before) in
-    finished-ran (close-turn (close-of-bare bare)) (bare .before .before .if4 .left) (bare .before .all-empty .ensures) (not-false _ (bare .if5 .left))
-    (gathered .gather .ensures) (test .is-empty2 .ensures) (c .before .if6 .taken) (c .conclude .ensures)
+    let none-pending = found-of-gather c .before in
+    gather-able (close-turn (none-pending .before)) (none-pending .if4 .left)
 
 first-of-eight-requires-3 : tie.Need-first-of-eight-requires-3 Inv-loop μ-loop
 first-of-eight-requires-3 c κs = search needs
@@ -467,26 +463,25 @@ first-of-eight-requires-4 c κs = search needs
 all-free-requires-2 : tie.Need-all-free-requires-2 Inv-loop μ-loop
 all-free-requires-2 c κs = search needs
 
-loop-less-9 : tie.Need-loop-less-9 Inv-loop μ-loop
-loop-less-9 c = search needs
+loop-less-8 : tie.Need-loop-less-8 Inv-loop μ-loop
+loop-less-8 c = search needs
 
-loop-again-9 : tie.Need-loop-again-9 Inv-loop μ-loop
-loop-again-9 c =
-    let filled = c .before .before .before .before in
-    let gathered = gather-of-test (filled .before .before) in
-    let bare = bare-of-gather (gathered .before) in
-    opened-on (close-turn (close-of-bare bare)) (bare .before .before .if4 .left) (bare .before .all-empty .ensures) (not-false _ (bare .if5 .left))
-    (gathered .gather .ensures) (filled .before .is-empty2 .ensures) (filled .if6 .left) (c .before .before .before .first-of-eight3 .ensures)
-    (c .before .before .empty2 .ensures) (c .before .first-of-eight4 .ensures) (c .all-free2 .ensures)
+loop-again-8 : tie.Need-loop-again-8 Inv-loop μ-loop
+loop-again-8 c =
+    let gathered = gather-of-united (c .before .before .before .before) in
+    let some-found = found-of-gather (gathered .before) in
+    let none-pending = some-found .before in
+    opened-on (close-turn (none-pending .before)) (none-pending .if4 .left) (some-found .if5 .left) (gathered .gather .ensures)
+    (c .before .before .before .first-of-eight3 .ensures) (c .before .before .empty2 .ensures) (c .before .first-of-eight4 .ensures) (c .all-free2 .ensures)
 
 enum-told-3 : tie.Need-enum-told-3 Inv-loop μ-loop
 enum-told-3 c = search needs
 
-loop-less-10 : tie.Need-loop-less-10 Inv-loop μ-loop
-loop-less-10 c = search needs
+loop-less-9 : tie.Need-loop-less-9 Inv-loop μ-loop
+loop-less-9 c = search needs
 
-loop-again-10 : tie.Need-loop-again-10 Inv-loop μ-loop
-loop-again-10 c = malformed-on (turn (c .before .before) (c .enum-told3 .given .1))
+loop-again-9 : tie.Need-loop-again-9 Inv-loop μ-loop
+loop-again-9 c = malformed-on (turn (c .before .before) (c .enum-told3 .given .1))
 
 conclude-requires-2 : tie.Need-conclude-requires-2 Inv-loop μ-loop
 conclude-requires-2 c κs = search needs
@@ -542,10 +537,12 @@ run-spec =
     stow-requires
     mul-outputs
     array-set-from-outputs
+    add-found
     advance-requires
     mul-phases
     array-set-from-phases
-    recount-requires
+    used-up-requires
+    sub-pending
     add-effective
     loop-less-2
     loop-again-2
@@ -582,14 +579,8 @@ run-spec =
     enum-told-2
     loop-less-7
     loop-again-7
-    all-empty-requires
-    loop-less-8
-    loop-again-8
-    array-copy-out-gather
-    gather-requires
     add-next
     add-counted
-    is-empty-requires-2
     conclude-requires
     same-length
     same-length-2
@@ -597,15 +588,17 @@ run-spec =
     same-length-4
     same-length-5
     returns
+    array-copy-out-gather
+    gather-requires
     first-of-eight-requires-3
     empty-requires-2
     first-of-eight-requires-4
     all-free-requires-2
+    loop-less-8
+    loop-again-8
+    enum-told-3
     loop-less-9
     loop-again-9
-    enum-told-3
-    loop-less-10
-    loop-again-10
     conclude-requires-2
     same-length-6
     same-length-7
