@@ -39,7 +39,7 @@ fn put_starts(offsets: &mut [u16], more: u16) {
     }
 }
 
-// The graph, with another target at every place.
+// The graph. The view looks at no target, so that any numbers that are known at every place will do.
 fn make(offsets: &mut [u16], targets: &mut [u16], more: u16) {
     put_starts(offsets, more);
     stamp(targets, TARGETS_TAG);
