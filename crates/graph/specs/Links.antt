@@ -1,5 +1,5 @@
 -- What the links view and its sister call give, for every offsets, targets and vertex.
-use Prim.Native.Nat.{ℕ, _+_, _-_}
+use Prim.Native.Nat.{ℕ, _+_, _*_, _-_}
 use mathlib.Core.Bool.{Bool, cond, not, _||_}
 use mathlib.Core.List.{List, [], _∷_}
 use lib.Dec.{ltb}
@@ -24,3 +24,11 @@ linksNumber offsets targets u = first (outOfView offsets targets u gives badRows
 -- "the part of the targets list itself that belongs to the device, or an empty part where number 11 holds"
 unfoldable pub linksOf : List ℕ → List ℕ → ℕ → List ℕ
 linksOf offsets targets u = cond (outOfView offsets targets u) [] (edges (rowsOf offsets targets) u)
+
+-- the place in the targets at which that part begins; the empty part of number 11 begins at the front
+unfoldable pub linksStart : List ℕ → List ℕ → ℕ → ℕ
+linksStart offsets targets u = cond (outOfView offsets targets u) 0 (getD offsets u 0)
+
+-- where that place of a list of 16-bit words is, by where the list is: the same block of memory, two bytes on for each place
+abbrev pub wordPlace : ℕ × ℕ → ℕ → ℕ × ℕ
+wordPlace list place = (list .0, place * 2 + list .1)

@@ -13,7 +13,7 @@ use Rattle.numbers.specs.Refusals.{_gives_, first}
 use Rattle.numbers.proofs.First.{first-passed}
 use Rattle.lists.proofs.Or.{or-none}
 use Rattle.graph.specs.Graph.{edges, rowsOf}
-use Rattle.graph.specs.Links.{outOfView, linksNumber, linksOf}
+use Rattle.graph.specs.Links.{outOfView, linksNumber, linksOf, linksStart}
 use Rattle.graph.proofs.Bridge.{offsets-count, row-at}
 
 -- the number where the vertex has two offsets, by the tests on these
@@ -42,6 +42,7 @@ pub record InView (offsets targets : List ℕ) (u : ℕ) : Type 0 where
   pub rises : getD offsets u 0 ≤ getD offsets (u + 1) 0
   pub ends : getD offsets (u + 1) 0 ≤ length targets
   pub part : linksOf offsets targets u ≡ edges (rowsOf offsets targets) u
+  pub start : getD offsets u 0 ≡ linksStart offsets targets u
 
 -- that part, by the two offsets
 pub part-between : {offsets targets : List ℕ} {u start end : ℕ} → InView offsets targets u → start ≡ getD offsets u 0 → end ≡ getD offsets (u + 1) 0
@@ -56,13 +57,18 @@ module _ (offsets targets : List ℕ) (u r : ℕ) (e : r ≡ linksNumber offsets
   unfolding linksNumber linksOf
   no-part h = simp (first-refuses (outOfView offsets targets u) (λ z. h (e ∙ z)))
 
+  -- .. that begins at the front
+  pub no-start : (r ≡ success → ⊥) → 0 ≡ linksStart offsets targets u
+  unfolding linksNumber linksStart
+  no-start h = simp (first-refuses (outOfView offsets targets u) (λ z. h (e ∙ z)))
+
   -- otherwise the test is false
   in-range : r ≡ success → outOfView offsets targets u ≡ false
   unfolding linksNumber
   in-range h = first-passed (outOfView offsets targets u) badRows [] (omega arith) (sym e ∙ h) .0
 
   pub in-view : r ≡ success → InView offsets targets u
-  unfolding outOfView linksOf
+  unfolding outOfView linksOf linksStart
   in-view h =
       let few : Bool = ltb (length offsets) 2 in
       let out : Bool = not (ltb u (length offsets - 1)) in
@@ -79,4 +85,5 @@ module _ (offsets targets : List ℕ) (u r : ℕ) (e : r ≡ linksNumber offsets
         rises = ltb-false _ _ (three .1);
         ends = ltb-false _ _ (four .1);
         part = simp (in-range h);
+        start = simp (in-range h);
       }

@@ -1,15 +1,19 @@
 // The view of one vertex's edges, as a part of the caller's own targets. Both functions are outside
 // calls; they assume nothing.
 ghost use mathlib.Core.Path.{_≡_};
-ghost use Rattle.graph.specs.Links.{linksOf, linksNumber};
+ghost use denote.Ref.{ptr};
+ghost use Rattle.graph.specs.Links.{linksNumber, linksStart, wordPlace, linksOf};
 use graph::words::element;
 
-// The part of the targets that belongs to the vertex; an empty part where 11 holds.
+// "The part of the targets list itself that belongs to the device, or an empty part where number 11
+// holds": where it is, then what it holds. The empty part is at the front.
 pub fn links<'a, 'b>(offsets: &'b [u16], targets: &'a [u16], vertex: usize) -> &'a [u16]
+    ensures { λ r. ⌜ ptr r ≡ wordPlace (ptr (targets .entry)) (linksStart (now (offsets .entry)) (now (targets .entry)) vertex) ⌝ }
     ensures { λ r. ⌜ now r ≡ linksOf (now (offsets .entry)) (now (targets .entry)) vertex ⌝ }
 {
+    let front = 0;
     if links_number(offsets, targets, vertex) != numbers::SUCCESS {
-        return &targets[..0];
+        return &targets[front..front];
     }
     let start = element(offsets, vertex);
     let end = element(offsets, vertex + 1);

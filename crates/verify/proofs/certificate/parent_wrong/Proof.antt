@@ -50,7 +50,7 @@ returns-4 c =
     ap not (sym (c .if4 .taken))
     ∙ parent-edge (a .offsets .now) (a .targets .now) (a .distances .now) (a .vertex) (a .distance) (a .parent) (s .pre) (read .before .if1 .left)
     (read .element .ensures .0) (tests .before .if2 .left) (tests .if3 .left)
-    (asked .has-edge .ensures) (asked .before .links .ensures)
+    (asked .has-edge .ensures) (asked .before .links .ensures .1)
 
 returns-5 : tie.Need-returns-5
 returns-5 c =
@@ -62,7 +62,7 @@ returns-5 c =
     ap not (sym (c .if4 .left))
     ∙ parent-edge (a .offsets .now) (a .targets .now) (a .distances .now) (a .vertex) (a .distance) (a .parent) (s .pre) (read .before .if1 .left)
     (read .element .ensures .0) (tests .before .if2 .left) (tests .if3 .left)
-    (asked .has-edge .ensures) (asked .before .links .ensures)
+    (asked .has-edge .ensures) (asked .before .links .ensures .1)
 
 pub parent-wrong-spec : {M : Type 1} → statement M
 parent-wrong-spec =

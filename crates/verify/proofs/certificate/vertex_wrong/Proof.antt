@@ -35,7 +35,7 @@ add-any-beyond c = search needs
 any-beyond-requires : tie.Need-any-beyond-requires
 any-beyond-requires c κs =
     let s = c .before .before .before .before .before .before .before .before in
-    view-below (s .pre .0 .rows) (s .args .vertex) (s .pre .1) (c .links .ensures)
+    view-below (s .pre .0 .rows) (s .args .vertex) (s .pre .1) (c .links .ensures .1)
 
 returns-3 : tie.Need-returns-3
 returns-3 c =
@@ -45,7 +45,7 @@ returns-3 c =
     let a = s .args in
     reached-far (a .source) (a .offsets .now) (a .targets .now) (a .distances .now) (a .parents .now) (s .pre .0) (a .vertex) (s .pre .1)
     (read .before .element .ensures .0) (read .element2 .ensures .0) (asked .before .before .if1 .left)
-    (asked .any-beyond .ensures) (asked .before .links .ensures) (c .if3 .taken)
+    (asked .any-beyond .ensures) (asked .before .links .ensures .1) (c .if3 .taken)
 
 returns-4 : tie.Need-returns-4
 returns-4 c =
@@ -55,7 +55,7 @@ returns-4 c =
     let a = s .args in
     source-far (a .source) (a .offsets .now) (a .targets .now) (a .distances .now) (a .parents .now) (s .pre .0) (a .vertex) (s .pre .1)
     (read .before .element .ensures .0) (read .element2 .ensures .0) (asked .before .before .if1 .left)
-    (asked .any-beyond .ensures) (asked .before .links .ensures) (c .before .before .if3 .left) (c .before .if4 .taken) (c .if5 .taken)
+    (asked .any-beyond .ensures) (asked .before .links .ensures .1) (c .before .before .if3 .left) (c .before .if4 .taken) (c .if5 .taken)
 
 returns-5 : tie.Need-returns-5
 returns-5 c =
@@ -65,7 +65,7 @@ returns-5 c =
     let a = s .args in
     source-near (a .source) (a .offsets .now) (a .targets .now) (a .distances .now) (a .parents .now) (s .pre .0) (a .vertex) (s .pre .1)
     (read .before .element .ensures .0) (read .element2 .ensures .0) (asked .before .before .if1 .left)
-    (asked .any-beyond .ensures) (asked .before .links .ensures) (c .before .before .if3 .left) (c .before .if4 .taken) (c .if5 .left)
+    (asked .any-beyond .ensures) (asked .before .links .ensures .1) (c .before .before .if3 .left) (c .before .if4 .taken) (c .if5 .left)
 
 parent-wrong-requires : tie.Need-parent-wrong-requires
 parent-wrong-requires c κs = search needs
@@ -78,7 +78,7 @@ returns-6 c =
     let a = s .args in
     other-by (a .source) (a .offsets .now) (a .targets .now) (a .distances .now) (a .parents .now) (s .pre .0) (a .vertex) (s .pre .1)
     (read .before .element .ensures .0) (read .element2 .ensures .0) (asked .before .before .if1 .left)
-    (asked .any-beyond .ensures) (asked .before .links .ensures) (c .before .before .if3 .left) (c .before .if4 .left) (c .parent-wrong .ensures)
+    (asked .any-beyond .ensures) (asked .before .links .ensures .1) (c .before .before .if3 .left) (c .before .if4 .left) (c .parent-wrong .ensures)
 
 pub vertex-wrong-spec : {M : Type 1} → statement M
 vertex-wrong-spec =
