@@ -1,22 +1,22 @@
 -- The reader's outcome, one fact for each way through its steps, and what each step passed says for the next.
 use mathlib.Core.Path.{_≡_, refl, sym, ap, _∙_}
-use mathlib.Core.Bool.{Bool, true, false, cond, _||_}
+use mathlib.Core.Bool.{Bool, true, false, cond, not, _||_}
 use mathlib.Core.List.{List, [], _∷_, _++_}
 use Prim.Native.Nat.{ℕ, _+_, _≤_, _<_}
 use native.Mathlib.Omega.{arith}
 use lib.Dec.{eqb, ltb}
 use lib.ListN.{length, replicate}
-use borrow.Author.Tests.{ne-eqb, ltb-false}
-use Rattle.numbers.specs.Numbers.{success, badLength, badSize, badTarget, badIndex, repeated, unreached, shortList}
+use borrow.Author.Tests.{ne-eqb, ltb-false, not-true}
+use Rattle.numbers.specs.Numbers.{success, repeated, unreached, shortList}
 use Rattle.numbers.specs.Refusals.{Refusal, _gives_, first}
-use Rattle.numbers.proofs.First.{first-stop, first-skip, first-append, first-append-stop}
+use Rattle.numbers.proofs.First.{Positive, first-stop, first-skip, first-append, first-append-stop, first-split, first-each}
 use Rattle.lists.specs.Lists.{overlay, elem}
 use Rattle.lists.proofs.Or.{or-none}
 use Rattle.graph.specs.File.{vertexCount, edgeCount}
 use Rattle.graph.specs.Read.{headerRefusals, scanRefusals, chainRefusals, rowsShort, readRefusals, readNumber, refusalAnswer, answerWith, writesRows, clearsMarks, readExit, readOutcomeBy, outcomeOfRead}
-use Rattle.graph.specs.Steps.{headerAnswer, Sized, Unchained}
+use Rattle.graph.specs.Steps.{fileRefusals, fileAnswer, Sized, Scanned, Unchained}
 use Rattle.graph.specs.declared.ReadAnswer.{ReadAnswer}
-use Rattle.graph.proofs.WellFormed.{header-sized, positive-header, positive-scan}
+use Rattle.graph.proofs.WellFormed.{header-sized, positive-header}
 
 -- a number that is not 0 is positive
 above-zero : {k : ℕ} → (k ≡ 0 → ⊥) → 0 < k
@@ -28,20 +28,10 @@ kept-outcome : (number : ℕ) (file offsets targets marks : List ℕ) → (numbe
 unfolding readOutcomeBy answerWith writesRows
 kept-outcome number file offsets targets marks h k = rw (ne-eqb number 0 h, k)
 
--- the header's numbers are none of 5 and 6, and neither are the scan's
-header-keeps : (a b c : Bool) → (first (a gives badLength ∷ b gives badSize ∷ c gives badLength ∷ []) ≡ 0 → ⊥)
-    → clearsMarks (first (a gives badLength ∷ b gives badSize ∷ c gives badLength ∷ [])) ≡ false
-unfolding first clearsMarks elem
-header-keeps true b c h = refl
-header-keeps false true c h = refl
-header-keeps false false true h = refl
-header-keeps false false false h = absurd (h refl)
-
-scan-keeps : (a b : Bool) → (first (a gives badIndex ∷ b gives badTarget ∷ []) ≡ 0 → ⊥) → clearsMarks (first (a gives badIndex ∷ b gives badTarget ∷ [])) ≡ false
-unfolding first clearsMarks elem
-scan-keeps true b h = refl
-scan-keeps false true h = refl
-scan-keeps false false h = absurd (h refl)
+-- the numbers of the file's tests are none of 5 and 6
+file-keeps : (file : List ℕ) → (first (fileRefusals file) ≡ 0 → ⊥) → clearsMarks (first (fileRefusals file)) ≡ false
+unfolding fileRefusals headerRefusals scanRefusals clearsMarks elem
+file-keeps file h = not-true _ (first-each (λ k. not (clearsMarks k)) (fileRefusals file) refl h)
 
 -- 0, 5 and 6 are the chains' numbers
 chain-clears : (a b : Bool) → clearsMarks (first (a gives repeated ∷ b gives unreached ∷ [])) ≡ true
@@ -69,19 +59,59 @@ pub answer-whole : (k n m : ℕ) → k ≡ 0 → answerWith k n m ≡ record { n
 unfolding answerWith
 answer-whole k n m h = rw h
 
-module _ (file : List ℕ) {a : ReadAnswer} (answered : a ≡ headerAnswer file) where
-  -- the header's number
-  pub header-number : a .number ≡ first (headerRefusals file)
-  unfolding headerAnswer
-  header-number = ap (λ (x : ReadAnswer). x .number) answered ∙ answer-number (first (headerRefusals file)) (vertexCount file) (edgeCount file)
+-- the answer of a list of refusals, where this is its number
+pub answer-by : (l : List Refusal) (n m : ℕ) {k : ℕ} {a : ReadAnswer} → first l ≡ k → (k ≡ 0 → ⊥) → a ≡ refusalAnswer k → a ≡ answerWith (first l) n m
+answer-by l n m {k} e h r = r ∙ sym (answer-refused k n m h) ∙ ap (λ (x : ℕ). answerWith x n m) (sym e)
+
+pub positive-file : (file : List ℕ) → Positive (fileRefusals file)
+unfolding fileRefusals headerRefusals scanRefusals
+positive-file file = omega arith
+
+-- a file that passes
+pub passed-scanned : (file : List ℕ) → first (fileRefusals file) ≡ 0 → Scanned file (vertexCount file) (edgeCount file)
+unfolding fileRefusals
+passed-scanned file e =
+    let p = first-split (headerRefusals file) (scanRefusals file) (positive-header file) e in
+    record { sized = header-sized file (p .0); clean = p .1 }
+
+-- What `examine` answers, one fact for each way through its tests.
+module _ (file : List ℕ) {k : ℕ} where
+  -- refused by the header
+  pub by-header : {a : ReadAnswer} → first (headerRefusals file) ≡ k → (k ≡ 0 → ⊥) → a ≡ refusalAnswer k → a ≡ fileAnswer file
+  unfolding fileAnswer fileRefusals
+  by-header e h r =
+      let stopped = first-append-stop (headerRefusals file) (scanRefusals file) (omega arith) in
+      answer-by (fileRefusals file) (vertexCount file) (edgeCount file) (stopped ∙ e) h r
+
+  module _ (passed : first (headerRefusals file) ≡ 0) (looked : k ≡ first (scanRefusals file)) where
+    -- past the header
+    file-scan : first (fileRefusals file) ≡ k
+    unfolding fileRefusals
+    file-scan = first-append (headerRefusals file) (scanRefusals file) (positive-header file) passed ∙ sym looked
+
+    -- by the scan
+    pub by-scan : {a : ReadAnswer} → (k ≡ 0 → ⊥) → a ≡ refusalAnswer k → a ≡ fileAnswer file
+    unfolding fileAnswer
+    by-scan h r = answer-by (fileRefusals file) (vertexCount file) (edgeCount file) file-scan h r
+
+    -- or by nothing
+    pub by-none : {n m : ℕ} → k ≡ 0 → n ≡ vertexCount file → m ≡ edgeCount file → record { number = 0; vertices = n; edges = m } ≡ fileAnswer file
+    unfolding fileAnswer
+    by-none z v e = rw (v, e) (sym (answer-whole (first (fileRefusals file)) (vertexCount file) (edgeCount file) (file-scan ∙ z)))
+
+module _ (file : List ℕ) {a : ReadAnswer} (answered : a ≡ fileAnswer file) where
+  -- its number
+  pub file-number : a .number ≡ first (fileRefusals file)
+  unfolding fileAnswer
+  file-number = ap (λ (x : ReadAnswer). x .number) answered ∙ answer-number (first (fileRefusals file)) (vertexCount file) (edgeCount file)
 
   -- with 0 it has the file's n and m
-  pub header-whole : a .number ≡ 0 → a ≡ record { number = 0; vertices = vertexCount file; edges = edgeCount file }
-  unfolding headerAnswer
-  header-whole h = answered ∙ answer-whole (first (headerRefusals file)) (vertexCount file) (edgeCount file) (sym header-number ∙ h)
+  pub file-whole : a .number ≡ 0 → a ≡ record { number = 0; vertices = vertexCount file; edges = edgeCount file }
+  unfolding fileAnswer
+  file-whole h = answered ∙ answer-whole (first (fileRefusals file)) (vertexCount file) (edgeCount file) (sym file-number ∙ h)
 
-  pub header-fits : a .number ≡ 0 → Sized file (a .vertices) (a .edges)
-  header-fits h = rw (header-whole h) (header-sized file (sym header-number ∙ h))
+  pub file-scanned : a .number ≡ 0 → Scanned file (a .vertices) (a .edges)
+  file-scanned h = rw (file-whole h) (passed-scanned file (sym file-number ∙ h))
 
 -- the lists meet their needs
 pub long-enough : (n m offsets targets marks : ℕ) → rowsShort n m offsets targets marks ≡ false → (n + 1 ≤ offsets) × (m ≤ targets) × (m ≤ marks)
@@ -101,37 +131,27 @@ module _ (file offsets targets marks : List ℕ) where
   abbrev short : Bool
   short = rowsShort (vertexCount file) (edgeCount file) (length offsets) (length targets) (length marks)
 
-  -- the refusals after the header's
+  -- the refusals after the file's tests
   abbrev later : List Refusal
   later = short gives shortList ∷ chainRefusals file
 
-  -- the number is the header's
-  number-header : (first (headerRefusals file) ≡ 0 → ⊥) → readNumber file offsets targets marks ≡ first (headerRefusals file)
-  unfolding readNumber readRefusals headerRefusals scanRefusals
-  number-header h = first-append-stop (headerRefusals file) (scanRefusals file ++ later) (above-zero h)
+  -- the number is theirs
+  number-file : (first (fileRefusals file) ≡ 0 → ⊥) → readNumber file offsets targets marks ≡ first (fileRefusals file)
+  unfolding readNumber readRefusals fileRefusals headerRefusals scanRefusals
+  number-file h = first-append-stop (fileRefusals file) later (above-zero h)
 
-  module _ (passed : first (headerRefusals file) ≡ 0) where
-    -- or the scan's
-    number-scan : (first (scanRefusals file) ≡ 0 → ⊥) → readNumber file offsets targets marks ≡ first (scanRefusals file)
-    unfolding readNumber readRefusals headerRefusals scanRefusals
-    number-scan h =
-        first-append (headerRefusals file) (scanRefusals file ++ later) (positive-header file) passed
-        ∙ first-append-stop (scanRefusals file) later (above-zero h)
+  module _ (passed : first (fileRefusals file) ≡ 0) where
+    number-later : readNumber file offsets targets marks ≡ first later
+    unfolding readNumber readRefusals fileRefusals headerRefusals scanRefusals
+    number-later = first-append (fileRefusals file) later (positive-file file) passed
 
-    module _ (clean : first (scanRefusals file) ≡ 0) where
-      number-later : readNumber file offsets targets marks ≡ first later
-      unfolding readNumber readRefusals headerRefusals scanRefusals
-      number-later =
-          first-append (headerRefusals file) (scanRefusals file ++ later) (positive-header file) passed
-          ∙ first-append (scanRefusals file) later (positive-scan file) clean
+    -- or 20
+    number-short : short ≡ true → readNumber file offsets targets marks ≡ shortList
+    number-short h = number-later ∙ first-stop short shortList (chainRefusals file) h
 
-      -- or 20
-      number-short : short ≡ true → readNumber file offsets targets marks ≡ shortList
-      number-short h = number-later ∙ first-stop short shortList (chainRefusals file) h
-
-      -- or the chains'
-      number-chains : short ≡ false → readNumber file offsets targets marks ≡ first (chainRefusals file)
-      number-chains h = number-later ∙ first-skip short shortList (chainRefusals file) h
+    -- or the chains'
+    number-chains : short ≡ false → readNumber file offsets targets marks ≡ first (chainRefusals file)
+    number-chains h = number-later ∙ first-skip short shortList (chainRefusals file) h
 
   -- a refusal before 5 and 6
   refuses : {number : ℕ} {a : ReadAnswer} → readNumber file offsets targets marks ≡ number → (number ≡ 0 → ⊥) → clearsMarks number ≡ false → a ≡ refusalAnswer number
@@ -141,29 +161,21 @@ module _ (file offsets targets marks : List ℕ) where
       ap (λ (x : ReadAnswer). readExit x offsets targets marks) e ∙ kept-outcome number file offsets targets marks h k
       ∙ ap (λ (x : ℕ). readOutcomeBy x file offsets targets marks) (sym n)
 
-  -- the reader's outcome is a refusal of the header
-  pub read-header : {a : ReadAnswer} → a ≡ headerAnswer file → (a .number ≡ 0 → ⊥) → readExit a offsets targets marks ≡ outcomeOfRead file offsets targets marks
-  unfolding headerAnswer headerRefusals
-  read-header {a} e h =
-      let refused : first (headerRefusals file) ≡ 0 → ⊥ = λ z. h (header-number file e ∙ z) in
-      refuses (number-header refused) refused (header-keeps _ _ _ refused)
-      (e ∙ answer-refused (first (headerRefusals file)) (vertexCount file) (edgeCount file) refused)
-
-  -- of the scan
-  pub read-scan : {a : ReadAnswer} {number : ℕ} → first (headerRefusals file) ≡ 0 → number ≡ first (scanRefusals file) → (number ≡ 0 → ⊥) → a ≡ refusalAnswer number
-      → readExit a offsets targets marks ≡ outcomeOfRead file offsets targets marks
-  unfolding scanRefusals
-  read-scan {a} {number} p n h e =
-      let refused : first (scanRefusals file) ≡ 0 → ⊥ = λ z. h (n ∙ z) in
-      refuses (number-scan p refused) refused (scan-keeps _ _ refused) (e ∙ ap refusalAnswer n)
+  -- the reader's outcome is a refusal of the file's tests
+  pub read-file : {a : ReadAnswer} → a ≡ fileAnswer file → (a .number ≡ 0 → ⊥) → readExit a offsets targets marks ≡ outcomeOfRead file offsets targets marks
+  unfolding fileAnswer
+  read-file e h =
+      let refused : first (fileRefusals file) ≡ 0 → ⊥ = λ z. h (file-number file e ∙ z) in
+      refuses (number-file refused) refused (file-keeps file refused)
+      (e ∙ answer-refused (first (fileRefusals file)) (vertexCount file) (edgeCount file) refused)
 
   -- of a list
-  pub read-short : {a : ReadAnswer} → first (headerRefusals file) ≡ 0 → first (scanRefusals file) ≡ 0 → short ≡ true → a ≡ refusalAnswer shortList
+  pub read-short : {a : ReadAnswer} → first (fileRefusals file) ≡ 0 → short ≡ true → a ≡ refusalAnswer shortList
       → readExit a offsets targets marks ≡ outcomeOfRead file offsets targets marks
   unfolding clearsMarks elem
-  read-short p c h e = refuses (number-short p c h) (λ z. absurd (omega arith)) refl e
+  read-short p h e = refuses (number-short p h) (λ z. absurd (omega arith)) refl e
 
-  module _ {number : ℕ} {offsets′ targets′ marks′ : List ℕ} (p : first (headerRefusals file) ≡ 0) (c : first (scanRefusals file) ≡ 0) (h : short ≡ false)
+  module _ {number : ℕ} {offsets′ targets′ marks′ : List ℕ} (p : first (fileRefusals file) ≡ 0) (h : short ≡ false)
       (u : Unchained file (edgeCount file) number offsets targets marks offsets′ targets′ marks′) where
     -- the lists that the walk leaves are the outcome's
     unchains : readExit (answerWith number (vertexCount file) (edgeCount file)) offsets′ targets′ marks′ ≡ outcomeOfRead file offsets targets marks
@@ -173,7 +185,7 @@ module _ (file offsets targets marks : List ℕ) where
         let zeros : List ℕ = overlay (replicate (edgeCount file) 0) marks in
         let marked : marks′ ≡ cond (clearsMarks number) zeros marks = u .cleared ∙ ap (λ (b : Bool). cond b zeros marks) (sym clears) in
         (λ i. record { answer = answerWith number (vertexCount file) (edgeCount file); offsets = u .starts i; targets = u .ends i; marks = marked i })
-        ∙ ap (λ (x : ℕ). readOutcomeBy x file offsets targets marks) (u .judged ∙ sym (number-chains p c h))
+        ∙ ap (λ (x : ℕ). readOutcomeBy x file offsets targets marks) (u .judged ∙ sym (number-chains p h))
 
     -- of the chains
     pub read-chains : {a : ReadAnswer} → (number ≡ 0 → ⊥) → a ≡ refusalAnswer number → readExit a offsets′ targets′ marks′ ≡ outcomeOfRead file offsets targets marks

@@ -3,19 +3,23 @@
 use Prim.Native.Nat.{ℕ, _+_, _-_, _≤_, _<_}
 use mathlib.Core.Path.{_≡_}
 use mathlib.Core.Bool.{false, cond}
-use mathlib.Core.List.{List}
+use mathlib.Core.List.{List, _++_}
 use lib.ListN.{length, getD, replicate}
 use Rattle.numbers.specs.Numbers.{maxVertices, maxEdges, success}
-use Rattle.numbers.specs.Refusals.{first}
+use Rattle.numbers.specs.Refusals.{Refusal, first}
 use Rattle.lists.specs.Lists.{overlay, reaches}
 use Rattle.graph.specs.Graph.{offsetsOf, targetsOf, rowsOf}
 use Rattle.graph.specs.File.{vertexCount, edgeCount, fileLength, reached, graphOf}
 use Rattle.graph.specs.Read.{headerRefusals, scanRefusals, chainRefusals, answerWith, writesRows}
 use Rattle.graph.specs.declared.ReadAnswer.{ReadAnswer}
 
--- what `header` answers: 1 (under 4), 2, 1 (length), or n and m
-unfoldable pub headerAnswer : List ℕ → ReadAnswer
-headerAnswer file = answerWith (first (headerRefusals file)) (vertexCount file) (edgeCount file)
+-- the tests that reader, search and checker begin with: 1 (under 4), 2, 1 (length), 4, 3
+unfoldable pub fileRefusals : List ℕ → List Refusal
+fileRefusals file = headerRefusals file ++ scanRefusals file
+
+-- what `examine` answers: the number of these, with n and m beside 0
+unfoldable pub fileAnswer : List ℕ → ReadAnswer
+fileAnswer file = answerWith (first (fileRefusals file)) (vertexCount file) (edgeCount file)
 
 -- n and m are the file's, within their sizes, and the length is theirs
 pub record Sized (file : List ℕ) (n m : ℕ) : Type 0 where

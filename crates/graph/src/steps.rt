@@ -9,7 +9,7 @@ ghost use Rattle.graph.specs.Graph.{offsetsOf, targetsOf};
 ghost use Rattle.graph.specs.File.{headIndex, graphOf};
 ghost use Rattle.graph.specs.File.{word as File·word};
 ghost use Rattle.graph.specs.Read.{refusalAnswer, outsideSizes, scanRefusals, chainRefusals, rowsShort};
-ghost use Rattle.graph.specs.Steps.{headerAnswer, Sized, Scanned, Chained, Ranked, Unchained};
+ghost use Rattle.graph.specs.Steps.{fileAnswer, Sized, Scanned, Chained, Ranked, Unchained};
 use crate::ReadAnswer;
 use crate::words::element;
 use crate::words::larger;
@@ -46,9 +46,10 @@ pub fn outside_sizes(n: usize, m: usize) -> bool
     false
 }
 
-// 1 (under 4), 2, 1 (length).
-pub fn header(file: &[u8]) -> ReadAnswer
-    ensures { λ r. ⌜ r ≡ headerAnswer (now (file .entry)) ⌝ }
+// The tests that reader, search and checker begin with: 1 (under 4), 2, 1 (length), 4, 3; with 0, n
+// and m.
+pub fn examine(file: &[u8]) -> ReadAnswer
+    ensures { λ r. ⌜ r ≡ fileAnswer (now (file .entry)) ⌝ }
 {
     if file.len() < 4 {
         return refused(numbers::BAD_LENGTH);
@@ -61,6 +62,10 @@ pub fn header(file: &[u8]) -> ReadAnswer
     if file.len() != 2 * (2 + n + 2 * m) {
         return refused(numbers::BAD_LENGTH);
     }
+    let found = scan(file, n, m);
+    if found != numbers::SUCCESS {
+        return refused(found);
+    }
     ReadAnswer {
         number: numbers::SUCCESS,
         vertices: n,
@@ -70,7 +75,7 @@ pub fn header(file: &[u8]) -> ReadAnswer
 
 // 4 over the whole file, then 3: by the largest head or next and the largest target, in one pass over
 // the records with no exit on the way.
-pub fn scan(file: &[u8], n: usize, m: usize) -> usize
+fn scan(file: &[u8], n: usize, m: usize) -> usize
     requires { ⌜ Sized (now file) n m ⌝ }
     ensures { λ r. ⌜ r ≡ first (scanRefusals (now (file .entry))) ⌝ }
 {

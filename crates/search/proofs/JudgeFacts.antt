@@ -12,9 +12,9 @@ use Rattle.numbers.proofs.First.{first-stop, first-skip, first-passed, first-ap
 use Rattle.lists.proofs.Or.{or-none}
 use Rattle.graph.specs.File.{vertexCount, edgeCount}
 use Rattle.graph.specs.Read.{headerRefusals, scanRefusals, rowsShort, refusalAnswer}
-use Rattle.graph.specs.Steps.{headerAnswer, Scanned}
+use Rattle.graph.specs.Steps.{fileRefusals, fileAnswer, Scanned}
 use Rattle.graph.specs.declared.ReadAnswer.{ReadAnswer}
-use Rattle.graph.proofs.ReadFacts.{header-fits, long-enough}
+use Rattle.graph.proofs.ReadFacts.{file-scanned, long-enough}
 use Rattle.graph.proofs.EarlyFacts as early
 use Rattle.schedule.specs.Check.{scheduleRefusals, scheduleNumber}
 use Rattle.schedule.proofs.Schedules.{positive-schedule}
@@ -81,14 +81,14 @@ module _ (file : List ℕ) (source P : ℕ) (schedule : List ℕ) (lengths : Len
   abbrev others : List Refusal
   others = leb (vertexCount file) source gives badSource ∷ later
 
-  -- they come after the header's and the scan's
+  -- they come after the file's
   parts : earlyRefusals file source P schedule lengths ≡ early.refusals file others
-  unfolding earlyRefusals headerRefusals scanRefusals
+  unfolding earlyRefusals fileRefusals headerRefusals scanRefusals
   parts = refl
 
   -- and the answer is that of all these tests
   answers : early.answer file others ≡ earlyAnswer file source P schedule lengths
-  unfolding earlyAnswer earlyRefusals headerRefusals scanRefusals
+  unfolding earlyAnswer earlyRefusals fileRefusals headerRefusals scanRefusals
   answers = refl
 
   -- what an answer with 0 tells
@@ -116,56 +116,51 @@ module _ (file : List ℕ) (source P : ℕ) (schedule : List ℕ) (lengths : Len
           long = rw (s .vertices, s .edges) (long-lists (vertexCount file) (edgeCount file) P lengths (r .0));
         }
 
-  module _ {head : ReadAnswer} (answered : head ≡ headerAnswer file) where
-    -- refused by the header
-    pub judged-header : (head .number ≡ 0 → ⊥) → head ≡ earlyAnswer file source P schedule lengths
-    judged-header h = early.by-header file others answered h ∙ answers
+  module _ {head : ReadAnswer} (answered : head ≡ fileAnswer file) where
+    -- refused by the file's tests
+    pub judged-file : (head .number ≡ 0 → ⊥) → head ≡ earlyAnswer file source P schedule lengths
+    judged-file h = early.by-file file others answered h ∙ answers
 
-    module _ (whole : head .number ≡ 0) {scanned : ℕ} (looked : scanned ≡ first (scanRefusals file)) where
-      -- by the scan
-      pub judged-scan : {r : ReadAnswer} → (scanned ≡ 0 → ⊥) → r ≡ refusalAnswer scanned → r ≡ earlyAnswer file source P schedule lengths
-      judged-scan h e = early.by-scan file others answered whole looked h e ∙ answers
+    module _ (whole : head .number ≡ 0) where
+      -- by one of the others
+      refuses : {k : ℕ} {r : ReadAnswer} → first others ≡ k → (k ≡ 0 → ⊥) → r ≡ refusalAnswer k → r ≡ earlyAnswer file source P schedule lengths
+      refuses f h e = early.by-others file others answered whole f h e ∙ answers
 
-      module _ (clean : scanned ≡ 0) where
-        -- by one of the others
-        refuses : {k : ℕ} {r : ReadAnswer} → first others ≡ k → (k ≡ 0 → ⊥) → r ≡ refusalAnswer k → r ≡ earlyAnswer file source P schedule lengths
-        refuses f h e = early.by-others file others answered whole looked clean f h e ∙ answers
+      -- 7
+      pub judged-source : {r : ReadAnswer} → head .vertices ≤ source → r ≡ refusalAnswer badSource → r ≡ earlyAnswer file source P schedule lengths
+      judged-source h e =
+          let far = le-leb (vertexCount file) source (omega (arith, file-scanned file answered whole .sized .vertices)) in
+          refuses (first-stop (leb (vertexCount file) source) badSource later far) (λ z. absurd (omega arith)) e
 
-        -- 7
-        pub judged-source : {r : ReadAnswer} → head .vertices ≤ source → r ≡ refusalAnswer badSource → r ≡ earlyAnswer file source P schedule lengths
-        judged-source h e =
-            let far = le-leb (vertexCount file) source (omega (arith, header-fits file answered whole .vertices)) in
-            refuses (first-stop (leb (vertexCount file) source) badSource later far) (λ z. absurd (omega arith)) e
+      module _ (near : source < head .vertices) {formed : ℕ} (told : formed ≡ scheduleNumber schedule P) where
+        -- past 7
+        number-schedule : first others ≡ first later
+        number-schedule =
+            first-skip (leb (vertexCount file) source) badSource later
+            (lt-leb (vertexCount file) source (omega (arith, file-scanned file answered whole .sized .vertices)))
 
-        module _ (near : source < head .vertices) {formed : ℕ} (told : formed ≡ scheduleNumber schedule P) where
-          -- past 7
-          number-schedule : first others ≡ first later
-          number-schedule =
-              first-skip (leb (vertexCount file) source) badSource later
-              (lt-leb (vertexCount file) source (omega (arith, header-fits file answered whole .vertices)))
+        -- 8 or 9
+        pub judged-schedule : {r : ReadAnswer} → (formed ≡ 0 → ⊥) → r ≡ refusalAnswer formed → r ≡ earlyAnswer file source P schedule lengths
+        unfolding scheduleNumber
+        judged-schedule h e =
+            let found : first (scheduleRefusals schedule P) ≡ 0 → ⊥ = λ z. h (told ∙ z) in
+            refuses (number-schedule ∙ first-append-stop (scheduleRefusals schedule P) last (omega arith) ∙ sym told) h e
 
-          -- 8 or 9
-          pub judged-schedule : {r : ReadAnswer} → (formed ≡ 0 → ⊥) → r ≡ refusalAnswer formed → r ≡ earlyAnswer file source P schedule lengths
+        module _ (well : formed ≡ 0) {short : Bool} (seen : short ≡ lengthsShort (head .vertices) (head .edges) P lengths) where
+          -- past 9
+          number-short : first others ≡ first last
           unfolding scheduleNumber
-          judged-schedule h e =
-              let found : first (scheduleRefusals schedule P) ≡ 0 → ⊥ = λ z. h (told ∙ z) in
-              refuses (number-schedule ∙ first-append-stop (scheduleRefusals schedule P) last (omega arith) ∙ sym told) h e
+          number-short = number-schedule ∙ first-append (scheduleRefusals schedule P) last (positive-schedule schedule P) (sym told ∙ well)
 
-          module _ (well : formed ≡ 0) {short : Bool} (seen : short ≡ lengthsShort (head .vertices) (head .edges) P lengths) where
-            -- past 9
-            number-short : first others ≡ first last
-            unfolding scheduleNumber
-            number-short = number-schedule ∙ first-append (scheduleRefusals schedule P) last (positive-schedule schedule P) (sym told ∙ well)
+          -- whether a list is short, with the file's n and m
+          file-short : {x : Bool} → short ≡ x → lengthsShort (vertexCount file) (edgeCount file) P lengths ≡ x
+          file-short e = rw (← (file-scanned file answered whole .sized .vertices), ← (file-scanned file answered whole .sized .edges)) (sym seen ∙ e)
 
-            -- whether a list is short, with the file's n and m
-            file-short : {x : Bool} → short ≡ x → lengthsShort (vertexCount file) (edgeCount file) P lengths ≡ x
-            file-short e = rw (← (header-fits file answered whole .vertices), ← (header-fits file answered whole .edges)) (sym seen ∙ e)
+          -- 20
+          pub judged-short : {r : ReadAnswer} → short ≡ true → r ≡ refusalAnswer shortList → r ≡ earlyAnswer file source P schedule lengths
+          judged-short h e = refuses (number-short ∙ first-stop _ shortList [] (file-short h)) (λ z. absurd (omega arith)) e
 
-            -- 20
-            pub judged-short : {r : ReadAnswer} → short ≡ true → r ≡ refusalAnswer shortList → r ≡ earlyAnswer file source P schedule lengths
-            judged-short h e = refuses (number-short ∙ first-stop _ shortList [] (file-short h)) (λ z. absurd (omega arith)) e
-
-            -- or nothing is refused
-            pub judged-whole : short ≡ false → head ≡ earlyAnswer file source P schedule lengths
-            unfolding first
-            judged-whole h = early.by-none file others answered whole looked clean (number-short ∙ first-skip _ shortList [] (file-short h)) ∙ answers
+          -- or nothing is refused
+          pub judged-whole : short ≡ false → head ≡ earlyAnswer file source P schedule lengths
+          unfolding first
+          judged-whole h = early.by-none file others answered whole (number-short ∙ first-skip _ shortList [] (file-short h)) ∙ answers

@@ -57,25 +57,21 @@ fn judge(
 ) -> ReadAnswer
     ensures { λ r. ⌜ r ≡ earlyAnswer (now (file .entry)) source workers (now (schedule .entry)) (lengthsIn lengths) ⌝ }
 {
-    let header = steps::header(file);
-    if header.number != numbers::SUCCESS {
-        return header;
+    let answer = steps::examine(file);
+    if answer.number != numbers::SUCCESS {
+        return answer;
     }
-    let scanned = steps::scan(file, header.vertices, header.edges);
-    if scanned != numbers::SUCCESS {
-        return steps::refused(scanned);
-    }
-    if header.vertices <= source {
+    if answer.vertices <= source {
         return steps::refused(numbers::BAD_SOURCE);
     }
     let formed = schedule::schedule_number(schedule, workers);
     if formed != numbers::SUCCESS {
         return steps::refused(formed);
     }
-    if lengths_short(header.vertices, header.edges, workers, lengths) {
+    if lengths_short(answer.vertices, answer.edges, workers, lengths) {
         return steps::refused(numbers::SHORT_LIST);
     }
-    header
+    answer
 }
 
 // Plays the schedule on the parts of the lists that it needs, then clears the nodes' parts.

@@ -12,9 +12,9 @@ use Rattle.numbers.proofs.First.{first-stop, first-skip, first-passed}
 use Rattle.lists.proofs.Or.{or-none}
 use Rattle.graph.specs.File.{vertexCount, edgeCount}
 use Rattle.graph.specs.Read.{headerRefusals, scanRefusals, rowsShort, refusalAnswer}
-use Rattle.graph.specs.Steps.{headerAnswer, Scanned}
+use Rattle.graph.specs.Steps.{fileRefusals, fileAnswer, Scanned}
 use Rattle.graph.specs.declared.ReadAnswer.{ReadAnswer}
-use Rattle.graph.proofs.ReadFacts.{header-fits, long-enough}
+use Rattle.graph.proofs.ReadFacts.{file-scanned, long-enough}
 use Rattle.graph.proofs.EarlyFacts as early
 use Rattle.verify.specs.Check.{CheckLengths, checkShort, checkEarly}
 use Rattle.verify.specs.Steps.{earlyAnswer}
@@ -62,14 +62,14 @@ module _ (file : List ℕ) (source : ℕ) (lengths : CheckLengths) where
   abbrev others : List Refusal
   others = leb (vertexCount file) source gives badSource ∷ last
 
-  -- they come after the header's and the scan's
+  -- they come after the file's
   early-split : checkEarly file source lengths ≡ early.refusals file others
-  unfolding checkEarly headerRefusals scanRefusals
+  unfolding checkEarly fileRefusals headerRefusals scanRefusals
   early-split = refl
 
   -- and the answer is that of all these tests
   answers : early.answer file others ≡ earlyAnswer file source lengths
-  unfolding earlyAnswer checkEarly headerRefusals scanRefusals
+  unfolding earlyAnswer checkEarly fileRefusals headerRefusals scanRefusals
   answers = refl
 
   -- what an answer with 0 tells
@@ -98,42 +98,37 @@ module _ (file : List ℕ) (source : ℕ) (lengths : CheckLengths) where
           long = rw (s .vertices, s .edges) (long-lists (vertexCount file) (edgeCount file) lengths (q .0));
         }
 
-  module _ {head : ReadAnswer} (answered : head ≡ headerAnswer file) where
-    -- refused by the header
-    pub judged-header : (head .number ≡ 0 → ⊥) → head ≡ earlyAnswer file source lengths
-    judged-header h = early.by-header file others answered h ∙ answers
+  module _ {head : ReadAnswer} (answered : head ≡ fileAnswer file) where
+    -- refused by the file's tests
+    pub judged-file : (head .number ≡ 0 → ⊥) → head ≡ earlyAnswer file source lengths
+    judged-file h = early.by-file file others answered h ∙ answers
 
-    module _ (whole : head .number ≡ 0) {scanned : ℕ} (looked : scanned ≡ first (scanRefusals file)) where
-      -- by the scan
-      pub judged-scan : {r : ReadAnswer} → (scanned ≡ 0 → ⊥) → r ≡ refusalAnswer scanned → r ≡ earlyAnswer file source lengths
-      judged-scan h e = early.by-scan file others answered whole looked h e ∙ answers
+    module _ (whole : head .number ≡ 0) where
+      -- 7
+      pub judged-source : {r : ReadAnswer} → head .vertices ≤ source → r ≡ refusalAnswer badSource → r ≡ earlyAnswer file source lengths
+      judged-source h e =
+          let far = le-leb (vertexCount file) source (omega (arith, file-scanned file answered whole .sized .vertices)) in
+          let stopped = first-stop (leb (vertexCount file) source) badSource last far in
+          early.by-others file others answered whole stopped (λ z. absurd (omega arith)) e ∙ answers
 
-      module _ (clean : scanned ≡ 0) where
-        -- 7
-        pub judged-source : {r : ReadAnswer} → head .vertices ≤ source → r ≡ refusalAnswer badSource → r ≡ earlyAnswer file source lengths
-        judged-source h e =
-            let far = le-leb (vertexCount file) source (omega (arith, header-fits file answered whole .vertices)) in
-            let stopped = first-stop (leb (vertexCount file) source) badSource last far in
-            early.by-others file others answered whole looked clean stopped (λ z. absurd (omega arith)) e ∙ answers
+      module _ (near : source < head .vertices) {short : Bool} (seen : short ≡ checkShort (head .vertices) (head .edges) lengths) where
+        -- past 7
+        number-short : first others ≡ first last
+        number-short =
+            first-skip (leb (vertexCount file) source) badSource last
+            (lt-leb (vertexCount file) source (omega (arith, file-scanned file answered whole .sized .vertices)))
 
-        module _ (near : source < head .vertices) {short : Bool} (seen : short ≡ checkShort (head .vertices) (head .edges) lengths) where
-          -- past 7
-          number-short : first others ≡ first last
-          number-short =
-              first-skip (leb (vertexCount file) source) badSource last
-              (lt-leb (vertexCount file) source (omega (arith, header-fits file answered whole .vertices)))
+        -- whether a list is short, with the file's n and m
+        file-short : {x : Bool} → short ≡ x → checkShort (vertexCount file) (edgeCount file) lengths ≡ x
+        file-short e = rw (← (file-scanned file answered whole .sized .vertices), ← (file-scanned file answered whole .sized .edges)) (sym seen ∙ e)
 
-          -- whether a list is short, with the file's n and m
-          file-short : {x : Bool} → short ≡ x → checkShort (vertexCount file) (edgeCount file) lengths ≡ x
-          file-short e = rw (← (header-fits file answered whole .vertices), ← (header-fits file answered whole .edges)) (sym seen ∙ e)
+        -- 20
+        pub judged-short : {r : ReadAnswer} → short ≡ true → r ≡ refusalAnswer shortList → r ≡ earlyAnswer file source lengths
+        judged-short h e =
+            let stopped = number-short ∙ first-stop _ shortList [] (file-short h) in
+            early.by-others file others answered whole stopped (λ z. absurd (omega arith)) e ∙ answers
 
-          -- 20
-          pub judged-short : {r : ReadAnswer} → short ≡ true → r ≡ refusalAnswer shortList → r ≡ earlyAnswer file source lengths
-          judged-short h e =
-              let stopped = number-short ∙ first-stop _ shortList [] (file-short h) in
-              early.by-others file others answered whole looked clean stopped (λ z. absurd (omega arith)) e ∙ answers
-
-          -- or nothing is refused
-          pub judged-whole : short ≡ false → head ≡ earlyAnswer file source lengths
-          unfolding first
-          judged-whole h = early.by-none file others answered whole looked clean (number-short ∙ first-skip _ shortList [] (file-short h)) ∙ answers
+        -- or nothing is refused
+        pub judged-whole : short ≡ false → head ≡ earlyAnswer file source lengths
+        unfolding first
+        judged-whole h = early.by-none file others answered whole (number-short ∙ first-skip _ shortList [] (file-short h)) ∙ answers

@@ -27,21 +27,17 @@ fn lengths_short(n: usize, m: usize, lengths: Lengths) -> bool
 fn judge(file: &[u8], source: usize, lengths: Lengths) -> ReadAnswer
     ensures { λ r. ⌜ r ≡ earlyAnswer (now (file .entry)) source (lengthsIn lengths) ⌝ }
 {
-    let header = steps::header(file);
-    if header.number != numbers::SUCCESS {
-        return header;
+    let answer = steps::examine(file);
+    if answer.number != numbers::SUCCESS {
+        return answer;
     }
-    let scanned = steps::scan(file, header.vertices, header.edges);
-    if scanned != numbers::SUCCESS {
-        return steps::refused(scanned);
-    }
-    if header.vertices <= source {
+    if answer.vertices <= source {
         return steps::refused(numbers::BAD_SOURCE);
     }
-    if lengths_short(header.vertices, header.edges, lengths) {
+    if lengths_short(answer.vertices, answer.edges, lengths) {
         return steps::refused(numbers::SHORT_LIST);
     }
-    header
+    answer
 }
 
 // Whether the result in the first places of these lists is wrong.
