@@ -1,7 +1,7 @@
 -- The reader's outcome, one fact for each way through its steps, and what each step passed says for the next.
 use mathlib.Core.Path.{_≡_, refl, sym, ap, _∙_}
 use mathlib.Core.Bool.{Bool, true, false, cond, not, _||_}
-use mathlib.Core.List.{List, [], _∷_, _++_}
+use mathlib.Core.List.{List, [], _∷_}
 use Prim.Native.Nat.{ℕ, _+_, _≤_, _<_}
 use native.Mathlib.Omega.{arith}
 use lib.Dec.{eqb, ltb}
@@ -63,11 +63,12 @@ answer-whole k n m h = rw h
 pub answer-by : (l : List Refusal) (n m : ℕ) {k : ℕ} {a : ReadAnswer} → first l ≡ k → (k ≡ 0 → ⊥) → a ≡ refusalAnswer k → a ≡ answerWith (first l) n m
 answer-by l n m {k} e h r = r ∙ sym (answer-refused k n m h) ∙ ap (λ (x : ℕ). answerWith x n m) (sym e)
 
+-- the file's tests have numbers above 0
 pub positive-file : (file : List ℕ) → Positive (fileRefusals file)
 unfolding fileRefusals headerRefusals scanRefusals
 positive-file file = omega arith
 
--- a file that passes
+-- what a file that passes them is
 pub passed-scanned : (file : List ℕ) → first (fileRefusals file) ≡ 0 → Scanned file (vertexCount file) (edgeCount file)
 unfolding fileRefusals
 passed-scanned file e =
@@ -100,7 +101,7 @@ module _ (file : List ℕ) {k : ℕ} where
     by-none z v e = rw (v, e) (sym (answer-whole (first (fileRefusals file)) (vertexCount file) (edgeCount file) (file-scan ∙ z)))
 
 module _ (file : List ℕ) {a : ReadAnswer} (answered : a ≡ fileAnswer file) where
-  -- its number
+  -- the number of its answer
   pub file-number : a .number ≡ first (fileRefusals file)
   unfolding fileAnswer
   file-number = ap (λ (x : ReadAnswer). x .number) answered ∙ answer-number (first (fileRefusals file)) (vertexCount file) (edgeCount file)
@@ -110,6 +111,7 @@ module _ (file : List ℕ) {a : ReadAnswer} (answered : a ≡ fileAnswer file) w
   unfolding fileAnswer
   file-whole h = answered ∙ answer-whole (first (fileRefusals file)) (vertexCount file) (edgeCount file) (sym file-number ∙ h)
 
+  -- and the file passes
   pub file-scanned : a .number ≡ 0 → Scanned file (a .vertices) (a .edges)
   file-scanned h = rw (file-whole h) (passed-scanned file (sym file-number ∙ h))
 
@@ -121,7 +123,7 @@ long-enough n m offsets targets marks e =
     let both = or-none (ltb offsets (n + 1)) (ltb targets m) (last .0) in
     (ltb-false offsets (n + 1) (both .0), ltb-false targets m (both .1), ltb-false marks m (last .1))
 
--- the test of the lists, with the n and m of the header
+-- the test of the lists, with the n and m of the file
 pub short-as : {file : List ℕ} {n m : ℕ} {b x : Bool} (offsets targets marks : ℕ) → Sized file n m → b ≡ rowsShort n m offsets targets marks → b ≡ x
     → rowsShort (vertexCount file) (edgeCount file) offsets targets marks ≡ x
 short-as offsets targets marks s e f = rw (← s .vertices, ← s .edges) (sym e ∙ f)
