@@ -1,13 +1,14 @@
 // From input bytes to output bytes.
 ghost use mathlib.Core.Path.{_≡_};
-ghost use Prim.Native.Nat.{_≤_};
-ghost use lib.ListN.{length};
+ghost use Prim.Native.Nat.{_+_, _≤_};
+ghost use lib.ListN.{length, take};
 ghost use Rattle.numbers.specs.Numbers.{success};
 ghost use Rattle.numbers.specs.Refusals.{first};
 ghost use Rattle.text.specs.Output.{respondExit};
 ghost use Rattle.text.specs.Printed.{Printed, Prints};
-ghost use Rattle.page_report.specs.Input.{ownRefusals};
+ghost use Rattle.page_report.specs.Input.{ownRefusals, longestInput};
 ghost use Rattle.page_report.specs.Respond.{numberLine, response, outputPlaces, outcomeOfRespond};
+use crate::INPUT_PLACES;
 use crate::OUTPUT_PLACES;
 use crate::input::copy_words;
 use crate::input::own_number;
@@ -73,4 +74,25 @@ pub fn respond(input: &[u8], output: &mut [u8]) -> usize
         return put_number_line(output, number);
     }
     page_and_print(input, output)
+}
+
+// The page program with its own lists: the first `read` bytes of the input list, or all of them where
+// there are no more, are its input. That the list has one place more than the longest input that can
+// be accepted is its type; whatever is longer is answered as the bytes that fill it are
+// (`long-input`).
+pub fn respond_in(
+    input: &[u8; INPUT_PLACES],
+    read: usize,
+    output: &mut [u8; OUTPUT_PLACES],
+) -> usize
+    ensures { λ r. ⌜ length (now (input .entry)) ≡ longestInput + 1 ⌝ }
+    ensures { λ r. ⌜ length (now (output .entry)) ≡ outputPlaces ⌝ }
+    ensures { λ r. ⌜ respondExit r (now (output .exit)) ≡ outcomeOfRespond (take read (now (input .entry))) (now (output .entry)) ⌝ }
+    ensures { λ r. ⌜ r ≤ length (now (output .exit)) ⌝ }
+{
+    let all: &[u8] = input;
+    if read < INPUT_PLACES {
+        return respond(&all[..read], output);
+    }
+    respond(all, output)
 }
