@@ -1,4 +1,4 @@
--- `hopmap::main` is safe: what `respond` counts as written is at most the output list's length, so that a prefix of it has that length.
+-- `hopmap::main` is safe: what `respond_in` counts as written is at most the output list's length, so that a prefix of it has that length.
 use mathlib.Core.Path.{sym}
 use lib.Seq.{length-take-le}
 use borrow.Author.Needs.{needs}
@@ -11,24 +11,16 @@ slice-aggregate-read-full c = search needs
 read-full-requires : tie.Need-read-full-requires
 read-full-requires c κs = search needs
 
-array-share-prefix-input : tie.Need-array-share-prefix-input
-array-share-prefix-input c = search needs
-
-slice-aggregate-respond : tie.Need-slice-aggregate-respond
-slice-aggregate-respond c = search needs
-
-slice-aggregate-respond-2 : tie.Need-slice-aggregate-respond-2
-slice-aggregate-respond-2 c = search needs
-
-respond-requires : tie.Need-respond-requires
-respond-requires c κs = search needs
+respond-in-requires : tie.Need-respond-in-requires
+respond-in-requires c κs = search needs
 
 array-share-prefix-output : tie.Need-array-share-prefix-output
 array-share-prefix-output c = search needs
 
 slice-aggregate-write-all : tie.Need-slice-aggregate-write-all
 slice-aggregate-write-all c =
-    sym (length-take-le (c .before .before .respond .result) (c .before .before .respond .last .1 .0) (c .before .before .respond .ensures .1))
+    let told = c .before .respond-in in
+    sym (length-take-le (told .result) (told .last .1 .1 .0) (told .ensures .1 .1 .1))
 
 write-all-requires : tie.Need-write-all-requires
 write-all-requires c κs = search needs
@@ -42,10 +34,7 @@ main-spec =
     (tie.spec
     slice-aggregate-read-full
     read-full-requires
-    array-share-prefix-input
-    slice-aggregate-respond
-    slice-aggregate-respond-2
-    respond-requires
+    respond-in-requires
     array-share-prefix-output
     slice-aggregate-write-all
     write-all-requires
