@@ -1,5 +1,5 @@
 // The page program's whole work as one function from its input bytes to its output bytes: `respond`,
-// and `respond_in`, the same with the program's own lists; outside calls, which assume nothing.
+// and `respond_in`, the same in the program's buffers; outside calls, which assume nothing.
 // Reading and writing are the program's.
 mod input;
 mod program;
@@ -13,8 +13,8 @@ pub use program::respond_in;
 // largest file.
 pub const LONGEST_INPUT: usize = 4 + 4 * MAX_VERTICES + 2 * (2 + MAX_VERTICES + 2 * MAX_EDGES);
 
-// The places of the program's input list: one more, so that what is longer is seen to be and is not
-// taken for its first bytes.
+// The places of the program's input buffer: one more, so that what is longer is seen to be and is
+// not taken for its first bytes.
 pub const INPUT_PLACES: usize = LONGEST_INPUT + 1;
 
 // Room for any output: the pages of 4,096 vertices.

@@ -1,5 +1,5 @@
 // The program's whole work as one function from its input bytes to its output bytes: `respond`, and
-// `respond_in`, the same with the program's own lists; outside calls, which assume nothing. Reading
+// `respond_in`, the same in the program's buffers; outside calls, which assume nothing. Reading
 // and writing are the program's.
 mod input;
 mod lines;
@@ -22,8 +22,8 @@ pub const LONGEST_INPUT: usize = 6
     + PROGRAM_EVENTS
     + 2 * (2 + PROGRAM_VERTICES + 2 * PROGRAM_EDGES);
 
-// The places of the program's input list: one more, so that what is longer is seen to be and is not
-// taken for its first bytes.
+// The places of the program's input buffer: one more, so that what is longer is seen to be and is
+// not taken for its first bytes.
 pub const INPUT_PLACES: usize = LONGEST_INPUT + 1;
 
 // Room for any output: four numbers of at most 20 digits in line one, a vertex of 3 and two labels

@@ -79,16 +79,18 @@ pub fn respond(input: &[u8], output: &mut [u8]) -> usize
     search_and_print(input, output)
 }
 
-// The program with its own lists: the first `read` bytes of the input list, or all of them where there
-// are no more, are its input. That the list has one place more than the longest input that can be
-// accepted is its type; whatever is longer is answered as the bytes that fill it are (`long-input`).
+// The program in its buffers: the first `read` bytes of the input buffer, or all of it where it has
+// no more, are the input. By its type that buffer has a place more than the longest input that can be
+// accepted; whatever is longer is answered as the bytes that fill it are (`long-input`,
+// proofs/OutputFacts.antt).
 pub fn respond_in(
     input: &[u8; INPUT_PLACES],
     read: usize,
     output: &mut [u8; OUTPUT_PLACES],
 ) -> usize
-    ensures { λ r. ⌜ length (now (input .entry)) ≡ longestInput + 1 ⌝ }
-    ensures { λ r. ⌜ length (now (output .entry)) ≡ outputPlaces ⌝ }
+    ensures { λ _. ⌜ length (now (input .entry)) ≡ longestInput + 1 ⌝ }
+    ensures { λ _. ⌜ length (now (output .entry)) ≡ outputPlaces ⌝ }
+    ensures { λ _. ⌜ length (now (output .exit)) ≡ outputPlaces ⌝ }
     ensures { λ r. ⌜ respondExit r (now (output .exit)) ≡ outcomeOfRespond (take read (now (input .entry))) (now (output .entry)) ⌝ }
     ensures { λ r. ⌜ r ≤ length (now (output .exit)) ⌝ }
 {

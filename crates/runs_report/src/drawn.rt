@@ -41,19 +41,17 @@ fn judged(input: &[u8], length: usize, plan: Plan, rows: &[u16], row_targets: &[
     }
 }
 
-// Draws a graph and a schedule into these lists, puts the input together, asks for its first bytes
-// up to `more` places behind its end, and judges.
-fn run_in(
+// Draws a graph and a schedule into these lists and puts the input together. The answer is its length.
+fn put_in(
     plan: Plan,
-    more: u16,
     file: &mut [u8; 9220],
     sources: &mut [u16; 2048],
     row_targets: &mut [u16; 2048],
     rows: &mut [u16; 513],
     order: &mut [u16; 2048],
     schedule: &mut [u8; 8192],
-    input: &mut [u8; 70000],
-) -> Outcome {
+    input: &mut [u8],
+) -> usize {
     draw_file(
         file,
         sources,
@@ -72,13 +70,58 @@ fn run_in(
         plan.workers,
         seed,
     );
-    let length = compose(input, parts_of(plan), schedule, file);
+    compose(input, parts_of(plan), schedule, file)
+}
+
+// Draws an input of a graph of at most 512 vertices and 2,048 edges and a schedule of at most 8,192
+// events. The answer is its length.
+pub fn put(plan: Plan, input: &mut [u8]) -> usize {
+    let mut file = [0u8; 9220];
+    let mut sources = [0u16; 2048];
+    let mut row_targets = [0u16; 2048];
+    let mut rows = [0u16; 513];
+    let mut order = [0u16; 2048];
+    let mut schedule = [0u8; 8192];
+    put_in(
+        plan,
+        &mut file,
+        &mut sources,
+        &mut row_targets,
+        &mut rows,
+        &mut order,
+        &mut schedule,
+        input,
+    )
+}
+
+// Draws an input into these lists, asks for its first bytes up to `more` places behind its end, and
+// judges.
+fn run_in(
+    plan: Plan,
+    more: u16,
+    file: &mut [u8; 9220],
+    sources: &mut [u16; 2048],
+    row_targets: &mut [u16; 2048],
+    rows: &mut [u16; 513],
+    order: &mut [u16; 2048],
+    schedule: &mut [u8; 8192],
+    input: &mut [u8; 70000],
+) -> Outcome {
+    let length = put_in(
+        plan,
+        file,
+        sources,
+        row_targets,
+        rows,
+        order,
+        schedule,
+        input,
+    );
     let given = std::num::wrapping_add_usize(length, more as usize);
     judged(input, given, plan, rows, row_targets)
 }
 
-// Draws a graph of at most 512 vertices and 2,048 edges and a schedule of at most 8,192 events,
-// asks, and judges.
+// Draws such an input, asks, and judges.
 pub fn run(plan: Plan, more: u16) -> Outcome {
     let mut file = [0u8; 9220];
     let mut sources = [0u16; 2048];

@@ -1,4 +1,5 @@
 // The groups that are tables or draws: one loop goes through the cases of a group.
+use crate::buffers;
 use crate::cuts;
 use crate::drawn;
 use crate::faults;
@@ -22,6 +23,8 @@ const DRAWN_GROUP: u16 = 5;
 
 const ROOM_GROUP: u16 = 6;
 
+const BUFFER_GROUP: u16 = 7;
+
 // A case of a group.
 fn is_right(group: u16, case: u16) -> bool {
     if group == OWN_GROUP {
@@ -42,7 +45,10 @@ fn is_right(group: u16, case: u16) -> bool {
     if group == DRAWN_GROUP {
         return drawn::is_right(case);
     }
-    rooms::is_right(case)
+    if group == ROOM_GROUP {
+        return rooms::is_right(case);
+    }
+    buffers::is_right(case)
 }
 
 // All cases of a group.
@@ -64,4 +70,5 @@ pub fn run() {
     all(SIZE_GROUP, sizes::ROWS).print(b"sizes");
     all(DRAWN_GROUP, drawn::ROUND_COUNT).print(b"drawn graphs");
     all(ROOM_GROUP, rooms::CASES).print(b"lengths of the output list");
+    all(BUFFER_GROUP, buffers::ROWS).print(b"the program's buffers");
 }

@@ -20,7 +20,7 @@ array-share-prefix-output c = search needs
 slice-aggregate-write-all : tie.Need-slice-aggregate-write-all
 slice-aggregate-write-all c =
     let told = c .before .respond-in in
-    sym (length-take-le (told .result) (told .last .1 .1 .0) (told .ensures .1 .1 .1))
+    sym (length-take-le (told .result) (told .last .1 .1 .0) (told .ensures .1 .1 .1 .1))
 
 write-all-requires : tie.Need-write-all-requires
 write-all-requires c κs = search needs

@@ -20,7 +20,7 @@ respond-requires c κs = search needs
 returns : tie.Need-returns
 returns c =
     let lent = c .before in
-    (lent .before .before .before .all .given .0, (lent .respond-arg2 .given .0 .1, c .respond .ensures))
+    (lent .before .before .before .all .given .0, (lent .respond-arg2 .given .0 .1, (search needs, c .respond .ensures)))
 
 respond-requires-2 : tie.Need-respond-requires-2
 respond-requires-2 c κs = search needs
@@ -31,7 +31,7 @@ returns-2 c =
     let a = lent .before .before .before .args in
     let whole = take-all (a .read) (a .input .now) (omega arith) in
     let answered = c .respond2 .ensures .0 ∙ ap (λ (l : List ℕ). outcomeOfRespond l (a .output .now)) (sym whole) in
-    (lent .before .before .all .given .0, (lent .respond-arg3 .given .0 .1, (answered, c .respond2 .ensures .1)))
+    (lent .before .before .all .given .0, (lent .respond-arg3 .given .0 .1, (search needs, (answered, c .respond2 .ensures .1))))
 
 pub respond-in-spec : {M : Type 1} → statement M
 respond-in-spec =
