@@ -2,6 +2,7 @@
 use crate::inputs::Parts;
 use crate::inputs::compose;
 use crate::replies::answers;
+use crate::replies::answers_in;
 use checkkit::graphs::draw;
 use checkkit::plans::Plan;
 use checkkit::plans::medium;
@@ -14,8 +15,8 @@ use testkit::sample::file_length;
 pub const CASES: u16 = 600;
 
 // What is drawn for a case: the graph, how many edges of it are a path, the kind of result, how many
-// distances are given, how many bytes stand behind the file; and the number, where it is not the
-// result's own.
+// distances are given, how many bytes stand behind the file; the number, where it is not the result's
+// own; and whether the program's buffers are lent.
 pub struct Task {
     pub plan: Plan,
     pub path: u16,
@@ -23,6 +24,7 @@ pub struct Task {
     pub count: u16,
     pub more: usize,
     pub number: u16,
+    pub in_buffers: bool,
 }
 
 // The number of a task for which a result has this one.
@@ -45,6 +47,9 @@ fn is_answered(task: Task, number: u16, distances: &[u16], parents: &[u16], file
     };
     let length = compose(&mut input, parts, distances, parents, file);
     let given = std::num::wrapping_add_usize(length, task.more);
+    if task.in_buffers {
+        return answers_in(&input, given, number, plan.vertices, distances, parents);
+    }
     answers(&input, given, number, plan.vertices, distances, parents)
 }
 
@@ -112,5 +117,6 @@ pub fn is_right(case: u16) -> bool {
         count: std::num::wrapping_add_u16(plan.vertices, case / KINDS % 4),
         more: 0,
         number: 0,
+        in_buffers: false,
     })
 }

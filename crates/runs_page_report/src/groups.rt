@@ -1,4 +1,5 @@
 // The groups: one loop goes through the cases of a group.
+use crate::buffers;
 use crate::cuts;
 use crate::drawn;
 use crate::faults;
@@ -23,6 +24,8 @@ const DRAWN_GROUP: u16 = 6;
 
 const ROOM_GROUP: u16 = 7;
 
+const BUFFER_GROUP: u16 = 8;
+
 // A case of a group.
 fn is_right(group: u16, case: u16) -> bool {
     match group {
@@ -33,7 +36,8 @@ fn is_right(group: u16, case: u16) -> bool {
         CUT_GROUP => cuts::is_right(case),
         SIZE_GROUP => sizes::is_right(case),
         DRAWN_GROUP => drawn::is_right(case),
-        _ => rooms::is_right(case),
+        ROOM_GROUP => rooms::is_right(case),
+        _ => buffers::is_right(case),
     }
 }
 
@@ -57,4 +61,5 @@ pub fn run() {
     all(SIZE_GROUP, sizes::ROWS).print(b"sizes");
     all(DRAWN_GROUP, drawn::CASES).print(b"drawn graphs");
     all(ROOM_GROUP, rooms::CASES).print(b"lengths of the output list");
+    all(BUFFER_GROUP, buffers::ROWS).print(b"the program's buffers");
 }

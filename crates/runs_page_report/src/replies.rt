@@ -1,8 +1,11 @@
-// Calls of `respond`, each with its whole output list compared with what it must hold.
+// Calls of `respond` and `respond_in`, each with its whole output list compared with what it must hold.
+use page_report::INPUT_PLACES;
+use page_report::OUTPUT_PLACES;
 use pagekit::BLANK;
 use pagekit::is_printed;
 use pagekit::need;
 use testkit::files::at;
+use testkit::files::copy;
 use testkit::files::is_filled;
 use testkit::files::prefix;
 
@@ -56,5 +59,22 @@ pub fn answers(
 ) -> bool {
     let mut output = [BLANK; OUTPUT_PLACES];
     let count = respond(input, length, &mut output, OUTPUT_PLACES);
+    is_reply(&output, count, number, vertices, distances, parents)
+}
+
+// Whether they are answered so in the program's buffers: so many bytes are said to be read, and the
+// input buffer has as many of them as it has places.
+pub fn answers_in(
+    input: &[u8],
+    length: usize,
+    number: u16,
+    vertices: u16,
+    distances: &[u16],
+    parents: &[u16],
+) -> bool {
+    let mut bytes = [0u8; INPUT_PLACES];
+    let mut output = [BLANK; OUTPUT_PLACES];
+    copy(input, INPUT_PLACES, &mut bytes, 0);
+    let count = page_report::respond_in(&bytes, length, &mut output);
     is_reply(&output, count, number, vertices, distances, parents)
 }

@@ -55,5 +55,6 @@ pub fn is_right(row: u16) -> bool {
         count: cell(row, 3),
         more: cell(row, 4) as usize,
         number: cell(row, 5),
+        in_buffers: false,
     })
 }
