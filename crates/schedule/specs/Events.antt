@@ -1,5 +1,5 @@
 -- Events, and the byte of each: "An event byte is 64 × kind + 8 × w + v."
-use Prim.Native.Nat.{ℕ, _/_, _%_}
+use Prim.Native.Nat.{ℕ, _+_, _*_, _/_, _%_}
 use mathlib.Core.Bool.{Bool, true, false, cond, _&&_}
 use lib.Dec.{eqb, ltb}
 use Rattle.schedule.specs.declared.Event.{Event}
@@ -25,3 +25,12 @@ within P (Split w v) = ltb w P && ltb v P
 within P (Unite w v) = ltb w P && ltb v P
 within P Close = true
 within P Malformed = false
+
+-- "An event byte is 64 × kind + 8 × w + v.", and "where an answer is an enum, a definition gives this paper's number and values for each
+-- of its cases": the byte of each event. A malformed event has none: 256 is no byte.
+unfoldable pub byteOf : Event → ℕ
+byteOf (Work w) = 64 * 0 + 8 * w + 0
+byteOf (Split w v) = 64 * 1 + 8 * w + v
+byteOf (Unite w v) = 64 * 2 + 8 * w + v
+byteOf Close = 64 * 3 + 8 * 0 + 0
+byteOf Malformed = 256

@@ -57,24 +57,11 @@ pub fn decode(byte: u8) -> Event
     form(code / 64, code / 8 % 8, code % 8)
 }
 
-// Whether the event is one of document 01's and all its workers are there.
-pub fn fits(event: Event, workers: usize) -> bool
-    ensures { λ r. ⌜ r ≡ within workers event ⌝ }
-{
-    match event {
-        Event::Work { worker } => worker < workers,
-        Event::Split { taker, giver } => taker < workers && giver < workers,
-        Event::Unite { giver, taker } => giver < workers && taker < workers,
-        Event::Close => true,
-        Event::Malformed => false,
-    }
-}
-
 // The byte of a close: kind 3, w = v = 0.
 const CLOSE: u8 = 64 * 3;
 
-// `fits` of a byte's event. It makes every test and branches on none, so that the form check can
-// take many bytes at a time.
+// Whether a byte's event is one of document 01's and all its workers are there. It makes every test
+// and branches on none, so that the form check can take many bytes at a time.
 fn byte_fits(byte: u8, workers: u8) -> bool
     ensures { λ r. ⌜ r ≡ within workers (eventOf byte) ⌝ }
 {

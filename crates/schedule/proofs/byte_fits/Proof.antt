@@ -1,60 +1,66 @@
--- `schedule::byte_fits` meets its contract: of a byte of each kind, its tests come to what is to be tested of that kind's event.
-use mathlib.Core.Path.{_≡_, refl, sym}
-use mathlib.Core.Bool.{Bool, true, false, cond, not, _&&_, _||_, or-false}
+-- `schedule::byte_fits` meets its contract: of a byte of each kind, the tests that decide are known, and the rest computes, in whatever
+-- order the code makes them.
+use mathlib.Core.Path.{_≡_, refl}
+use mathlib.Core.Bool.{Bool, true, false, cond, _&&_, and-true, and-false, or-true, or-false}
 use Prim.Native.Nat.{ℕ, zero, suc, _/_, _%_, _<_}
 use native.Mathlib.Omega.{arith}
 use lib.Dec.{eqb, ltb}
 use borrow.Author.Tests.{eq-eqb, ne-eqb, eqb-true, eqb-false}
-use Rattle.schedule.specs.declared.Event.{Event}
-use Rattle.schedule.specs.declared.Event.the-variants.{Work, Split, Unite, Close, Malformed}
+use Rattle.schedule.specs.declared.Event.the-variants.{Close, Malformed}
 use Rattle.schedule.specs.Events.{formOf, eventOf, within}
 use Rattle.schedule.proofs.byte_fits.Statement.{statement}
 use Rattle.schedule.proofs.byte_fits.Tie as tie
 
-module _ (P byte : ℕ) where
-  abbrev w : ℕ
-  w = byte / 8 % 8
+-- a known test beside another, on either side
+ruleset joined = (and-true, and-false, or-true, or-false)
 
-  abbrev v : ℕ
-  v = byte % 8
+-- by the outcome of a test
+by-test : {A : Type 0} (test : Bool) → (test ≡ true → A) → (test ≡ false → A) → A
+by-test true holds fails = holds refl
+by-test false holds fails = fails refl
 
-  -- kind 0: v is 0, and w is there
-  work : (zero-v : Bool) → (zero-v && ltb w P) ≡ within P (cond zero-v (Work w) Malformed)
-  unfolding within
-  work true = refl
-  work false = refl
+-- by kind
+by-kind : {A : Type 0} (kind : ℕ) → kind < 4 → (kind ≡ 0 → A) → (kind ≡ 1 → A) → (kind ≡ 2 → A) → (kind ≡ 3 → A) → A
+by-kind zero h work split unite close = work refl
+by-kind (suc zero) h work split unite close = split refl
+by-kind (suc (suc zero)) h work split unite close = unite refl
+by-kind (suc (suc (suc zero))) h work split unite close = close refl
+by-kind (suc (suc (suc (suc k)))) h work split unite close = absurd (omega arith)
 
-  -- kinds 1 and 2: w and v are different, and both are there
-  pair : (same : Bool) (e : Event) → within P e ≡ (ltb w P && ltb v P) → (not same && ltb w P && ltb v P) ≡ within P (cond same Malformed e)
-  unfolding within
-  pair true e h = refl
-  pair false e h = sym h
+-- the byte of a close is of kind 3
+no-close : (byte : ℕ) → byte / 64 < 3 → eqb byte 192 ≡ false
+no-close byte h = ne-eqb byte 192 (λ e. omega arith)
 
-  -- kind 3: w and v are 0, in one byte only
-  close : byte / 64 ≡ 3 → (zero-w zero-v : Bool) → eqb w 0 ≡ zero-w → eqb v 0 ≡ zero-v
-      → eqb byte 192 ≡ within P (cond (zero-w && zero-v) Close Malformed)
-  unfolding within
-  close e true true p q = eq-eqb byte 192 (omega (arith, eqb-true w 0 p, eqb-true v 0 q))
-  close e true false p q = ne-eqb byte 192 (λ h. eqb-false v 0 q (omega arith))
-  close e false zero-v p q = ne-eqb byte 192 (λ h. eqb-false w 0 p (omega arith))
-
-  -- which is of no other kind
-  no-close : byte / 64 < 3 → eqb byte 192 ≡ false
-  no-close h = ne-eqb byte 192 (λ e. omega arith)
-
-  -- the tests of a byte of kind k
-  by-kind : (k : ℕ) → byte / 64 ≡ k → k < 4
-      → (eqb k 0 && eqb v 0 && ltb w P || (eqb k 1 || eqb k 2) && not (eqb w v) && ltb w P && ltb v P || eqb byte 192) ≡ within P (formOf k w v)
-  unfolding formOf within
-  by-kind zero e h = simp (no-close (omega arith), or-false) (work (eqb v 0))
-  by-kind (suc zero) e h = rw (no-close (omega arith), or-false) (pair (eqb w v) (Split w v) refl)
-  by-kind (suc (suc zero)) e h = rw (no-close (omega arith), or-false) (pair (eqb w v) (Unite w v) refl)
-  by-kind (suc (suc (suc zero))) e h = close e (eqb w 0) (eqb v 0) refl refl
-  by-kind (suc (suc (suc (suc k)))) e h = absurd (omega arith)
+-- and there is one only
+close : (P byte : ℕ) → byte / 64 ≡ 3 → (zero-w zero-v : Bool) → eqb (byte / 8 % 8) 0 ≡ zero-w → eqb (byte % 8) 0 ≡ zero-v
+    → eqb byte 192 ≡ within P (cond (zero-w && zero-v) Close Malformed)
+unfolding within
+close P byte e true true p q = eq-eqb byte 192 (omega (arith, eqb-true (byte / 8 % 8) 0 p, eqb-true (byte % 8) 0 q))
+close P byte e true false p q = ne-eqb byte 192 (λ h. eqb-false (byte % 8) 0 q (omega arith))
+close P byte e false zero-v p q = ne-eqb byte 192 (λ h. eqb-false (byte / 8 % 8) 0 p (omega arith))
 
 returns : tie.Need-returns
-unfolding eventOf
-returns c = by-kind (c .args .workers) (c .args .byte) (c .args .byte / 64) refl (omega arith)
+unfolding eventOf formOf within
+returns c =
+    let P = c .args .workers in
+    let byte = c .args .byte in
+    let w = byte / 8 % 8 in
+    let v = byte % 8 in
+    by-kind (byte / 64) (omega arith)
+    (λ k. let other = no-close byte (omega arith) in by-test (eqb v 0)
+    (λ e. simp (k, other, e, joined) refl)
+    (λ e. simp (k, other, e, joined) refl))
+    (λ k. let other = no-close byte (omega arith) in by-test (eqb w v)
+    (λ e. simp (k, other, e, joined) refl)
+    (λ e. by-test (ltb w P)
+    (λ f. simp (k, other, e, f, joined) refl)
+    (λ f. simp (k, other, e, f, joined) refl)))
+    (λ k. let other = no-close byte (omega arith) in by-test (eqb w v)
+    (λ e. simp (k, other, e, joined) refl)
+    (λ e. by-test (ltb w P)
+    (λ f. simp (k, other, e, f, joined) refl)
+    (λ f. simp (k, other, e, f, joined) refl)))
+    (λ k. simp (k, close P byte k (eqb w 0) (eqb v 0) refl refl, joined) refl)
 
 pub byte-fits-spec : {M : Type 1} → statement M
 byte-fits-spec = tie.close (tie.spec returns)
