@@ -246,9 +246,6 @@ targets-again (a ∷ offsets) targets r = rows-from targets (rows-rising a offse
 graph-count : (g : Graph) → rowCount (offsetsOf g) ≡ length g
 graph-count g = ap pred (length-offsets g)
 
-pub graph-links-number : (g : Graph) (u : ℕ) → u < length g → linksNumber (offsetsOf g) (targetsOf g) u ≡ 0
-graph-links-number g u h = links-number (offsetsOf g) (targetsOf g) (graph-rows g) u (rw (graph-count g) h)
-
 pub graph-links : (g : Graph) (u : ℕ) → u < length g → linksOf (offsetsOf g) (targetsOf g) u ≡ edges g u
 graph-links g u h = links-edges (offsetsOf g) (targetsOf g) (graph-rows g) u (rw (graph-count g) h) ∙ ap (λ (rows : Graph). edges rows u) (graph-again g)
 
@@ -260,9 +257,6 @@ module _ (offsets targets : List ℕ) (e : malformed offsets targets ≡ false) 
 
   pub accepted-targets : targetsOf (rowsOf offsets targets) ≡ targets
   accepted-targets = targets-again offsets targets (accept-rows offsets targets e .rows)
-
-  pub accepted-below : reaches (rowCount offsets) targets ≡ false
-  accepted-below = accept-rows offsets targets e .below
 
   pub accepted-links : (u : ℕ) → u < rowCount offsets → linksOf offsets targets u ≡ edges (rowsOf offsets targets) u
   accepted-links = links-edges offsets targets (accept-rows offsets targets e .rows)
