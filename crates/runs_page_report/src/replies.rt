@@ -10,7 +10,7 @@ use testkit::files::is_filled;
 use testkit::files::prefix;
 
 // How many places the program's output list has, and five more.
-const OUTPUT_PLACES: usize = 87743;
+const LONGER_OUTPUT: usize = 87743;
 
 // The answer to the first bytes of the input, with the first places of the output.
 pub fn respond(input: &[u8], length: usize, output: &mut [u8], places: usize) -> usize {
@@ -57,8 +57,8 @@ pub fn answers(
     distances: &[u16],
     parents: &[u16],
 ) -> bool {
-    let mut output = [BLANK; OUTPUT_PLACES];
-    let count = respond(input, length, &mut output, OUTPUT_PLACES);
+    let mut output = [BLANK; LONGER_OUTPUT];
+    let count = respond(input, length, &mut output, LONGER_OUTPUT);
     is_reply(&output, count, number, vertices, distances, parents)
 }
 

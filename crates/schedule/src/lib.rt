@@ -58,7 +58,7 @@ pub fn decode(byte: u8) -> Event
 }
 
 // The byte of a close: kind 3, w = v = 0.
-const CLOSE: u8 = 64 * 3;
+const CLOSE_BYTE: u8 = 64 * 3;
 
 // Whether a byte's event is one of document 01's and all its workers are there. It makes every test
 // and branches on none, so that the form check can take many bytes at a time.
@@ -70,7 +70,7 @@ fn byte_fits(byte: u8, workers: u8) -> bool
     let v = byte % 8;
     let work = (kind == 0) & (v == 0) & (w < workers);
     let pair = ((kind == 1) | (kind == 2)) & (w != v) & (w < workers) & (v < workers);
-    work | pair | (byte == CLOSE)
+    work | pair | (byte == CLOSE_BYTE)
 }
 
 // Whether some byte is not of document 01's forms, or names a worker that isn't there.
