@@ -17,7 +17,7 @@ use Rattle.bag.specs.Nodes.{slotsFrom, slotNodes, nodesOf, heldBy, newBa
 use Rattle.bag.specs.Promises.{inPool, weighNodes, uses, AllFormed, Pooled, Moved}
 use Rattle.bag.proofs.Only.{in-pool-once, in-pool-within}
 use Rattle.bag.proofs.Kept.{nodes-kept}
-use Rattle.bag.proofs.FormedFacts.{formed-at, formed-set, formed-first}
+use Rattle.bag.proofs.FormedFacts.{formed-at, formed-set}
 use Rattle.bag.proofs.Free.{empty-weight, weigh-new}
 use Rattle.bag.proofs.HeldFacts.{held-empty}
 
@@ -207,11 +207,6 @@ module _ {left right left′ right′ : List ℕ} {bags part part′ : List decl
         right-length = moved .right-length;
         formed = formed;
       }
-
--- what is well-formed with two families is so with the first
-pub pool-front : {left right : List ℕ} (first second : List declared.Bag) → Pooled left right (first ++ second) → Pooled left right first
-pool-front first second pool =
-    pool-part first second pool (λ f left right. weigh-both left right f first second) (formed-first first second (pool .formed))
 
 -- One bag.
 

@@ -32,10 +32,6 @@ module _ (left right values : List ℕ) (b : declared.Bag) where
   unfolding heldBy
   held-weigh f = weigh-map f (λ x. getD values x 0) (nodesOf left right b)
 
-  -- as many numbers as nodes
-  pub held-size : size (heldBy left right values b) ≡ weigh one (nodesOf left right b)
-  held-size = held-weigh one
-
   -- slot k is empty or holds 2^k numbers
   pub held-shaped : Shaped (heldBy left right values b)
   unfolding heldBy

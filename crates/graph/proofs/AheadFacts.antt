@@ -12,7 +12,6 @@ use Rattle.graph.proofs.WalkFacts.{behind, next-behind}
 pub record Ahead (file : List ℕ) (m index second third : ℕ) : Type 0 where
   pub to-second : (index ≡ 0 → ⊥) → second ≡ next file index
   pub to-third : (index ≡ 0 → ⊥) → third ≡ next file second
-  pub second-inside : second ≤ m
   pub third-inside : third ≤ m
 
 -- before the first chain
@@ -20,7 +19,6 @@ pub ahead-none : {file : List ℕ} {m : ℕ} → Ahead file m 0 0 0
 ahead-none = record {
   to-second = λ some. absurd (omega arith);
   to-third = λ some. absurd (omega arith);
-  second-inside = omega arith;
   third-inside = omega arith;
 }
 
@@ -48,7 +46,6 @@ module _ (file : List ℕ) {n m : ℕ} (s : Scanned file n m) where
       let low = next-of-within index inside e in record {
         to-second = λ some. e ∙ next-behind (s .sized) index;
         to-third = λ some. f ∙ next-behind (s .sized) second;
-        second-inside = low;
         third-inside = next-of-within second low f;
       }
 
@@ -58,6 +55,5 @@ module _ (file : List ℕ) {n m : ℕ} (s : Scanned file n m) where
   ahead-next {third = third} a some e = record {
     to-second = λ _. a .to-third some;
     to-third = λ _. e ∙ next-behind (s .sized) third;
-    second-inside = a .third-inside;
     third-inside = next-of-within third (a .third-inside) e;
   }

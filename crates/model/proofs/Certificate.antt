@@ -8,7 +8,8 @@ use native.Mathlib.Omega.{arith}
 use lib.ListN.{length}
 use lib.Seq.{ext-getD}
 use Rattle.graph.specs.Graph.{Graph}
-use Rattle.model.specs.Paths.{Joins, Walk, stay, onward, Labels, distanceOf, parentOf, RightResult, Certified}
+use Rattle.model.specs.Paths.{Joins, Walk, stay, onward, Labels, distanceOf, parentOf, RightResult}
+use Rattle.model.proofs.Certified.{Certified}
 use Rattle.model.proofs.Sound.{Ground}
 use Rattle.model.proofs.Walks.{walk-below, walk-more, distance-unique}
 use Rattle.model.proofs.LabelFacts.{label-below}

@@ -15,7 +15,8 @@ use Rattle.graph.specs.Graph.{Graph, edges}
 use Rattle.pennant.specs.Bag.{takenNumber, isEmpty}
 use Rattle.pennant.specs.Held.{only, copies}
 use Rattle.pennant.proofs.Laws.{empty-bag, empty-weighs, taken-held, shaped-empty}
-use Rattle.model.specs.Paths.{edgeTarget, Walk, stay, Distance, Labels, distanceOf, parentOf, isSet, Certified}
+use Rattle.model.specs.Paths.{edgeTarget, Walk, stay, Distance, Labels, distanceOf, parentOf, isSet}
+use Rattle.model.proofs.Certified.{Certified}
 use Rattle.model.specs.State.{free, Worker, idleWorker, State, workerAt}
 use Rattle.model.specs.Table.{allIdle, unitedOutputs, handedIn, raisedState, closed}
 use Rattle.model.specs.Demand.{LayerOpen}

@@ -6,6 +6,7 @@ pub mod Sound
 pub mod Walks
 pub mod LabelFacts
 pub mod WordFacts
+pub mod Certified
 pub mod Certificate
 pub mod RightFacts
 pub mod Workers

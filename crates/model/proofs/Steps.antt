@@ -14,7 +14,8 @@ use Rattle.schedule.specs.declared.Event.{Event}
 use Rattle.schedule.specs.declared.Event.the-variants.{Work, Split, Unite, Close, Malformed}
 use Rattle.schedule.specs.Events.{eventOf, within}
 use Rattle.schedule.proofs.Bytes.{Staffed, byte-staffed}
-use Rattle.model.specs.Paths.{Distance, Labels, distanceOf, Certified}
+use Rattle.model.specs.Paths.{Distance, Labels, distanceOf}
+use Rattle.model.proofs.Certified.{Certified}
 use Rattle.model.specs.State.{Worker, idleWorker, State, workerAt}
 use Rattle.model.specs.Table.{movedState, endedState, replaceWorkers, splitInputs, uniteOutputs, allIdle, unitedOutputs, closed, act}
 use Rattle.model.specs.Play.{Run, tally, step, eventBound}

@@ -11,7 +11,8 @@ use Rattle.lists.specs.Lists.{elem}
 use Rattle.lists.proofs.Any.{any-at, at-any, any-below, below-any, elem-place, place-elem}
 use Rattle.lists.proofs.Or.{or-none, none-or}
 use Rattle.graph.specs.Graph.{Graph, edges}
-use Rattle.model.specs.Paths.{edgeTarget, Labels, distanceOf, parentOf, isSet, Nearer, RightResult, Certified}
+use Rattle.model.specs.Paths.{edgeTarget, Labels, distanceOf, parentOf, isSet, Nearer, RightResult}
+use Rattle.model.proofs.Certified.{Certified}
 use Rattle.model.proofs.Sound.{Ground}
 use Rattle.model.proofs.Certificate.{certified-right, right-certified}
 use Rattle.verify.specs.Certificate.{beyond, anyBeyond, isNot, notBefore, parentWrong, labelWrong, vertexWrong, resultWrong}

@@ -11,7 +11,7 @@ use borrow.Author.Tests.{ltb-true, ltb-false, lt-ltb, le-ltb, ne-eqb}
 use Rattle.numbers.specs.Numbers.{unset}
 use Rattle.graph.specs.Graph.{edges, rowsOf}
 use Rattle.graph.specs.Steps.{GraphRows}
-use Rattle.graph.proofs.GraphRowsFacts.{offsets-long, rows-within, row-ends, row-target, target-below}
+use Rattle.graph.proofs.GraphRowsFacts.{rows-within, row-ends, row-target, target-below}
 use Rattle.model.specs.Paths.{edgeTarget, Labels, isSet}
 use Rattle.model.specs.State as model
 use Rattle.model.specs.Table.{holdAt, look, move}
@@ -26,7 +26,6 @@ use Rattle.model.proofs.WordFacts.{label-at, mark-shown, name-shown}
 pub record EdgeSmall (offsets targets : List ℕ) (n u e : ℕ) : Type 0 where
   pub edge-below : e < length targets
   pub edge-small : e + 1 < 65536
-  pub vertex-below : u + 1 < length offsets
   pub target-below : getD targets e 0 < n
 
 module _ {offsets targets : List ℕ} {n : ℕ} (ground : GraphRows offsets targets n) where
@@ -63,7 +62,6 @@ module _ {offsets targets : List ℕ} {n : ℕ} (ground : GraphRows offsets targ
       record {
         edge-below = omega (arith, edge .last);
         edge-small = omega (arith, edge .last, ground .few-edges);
-        vertex-below = omega (arith, edge .vertex, offsets-long ground);
         target-below = target-below ground e (omega (arith, edge .last));
       }
 
