@@ -8,7 +8,7 @@ use Prim.Native.Nat.{ℕ, suc, _+_, _-_, _*_, _≤_, _<_}
 use native.Mathlib.Nat.{mul-le-mul}
 use native.Mathlib.Omega.{arith}
 use lib.ListN.{length, getD, set, take, length-set}
-use lib.Seq.{take-set-lt, set-getD}
+use lib.Seq.{take-set-lt, set-getD, getD-set-same}
 use Rattle.lists.specs.Lists.{sumOf, someOne}
 use Rattle.lists.proofs.Sums.{sum-set, sum-at, sum-append}
 use Rattle.lists.proofs.Replaced.{map-set, set-each}
@@ -116,7 +116,10 @@ module _ {g : Given} {distances parents left right values : List ℕ} {inputs ou
   -- A move that was made.
 
   -- the worker's bags and phase, and the lists, after it
-  pub record Worked (distances′ parents′ left′ right′ values′ : List ℕ) (inputs′ outputs′ : List declared.Bag) (next : Phase) (found′ : ℕ) : Type 0 where
+  pub record Worked (distances′ parents′ left′ right′ values′ : List ℕ) (inputs′ outputs′ : List declared.Bag) (phases′ : List Phase) (found′ : ℕ)
+      : Type 0 where
+    pub next : Phase
+    pub stored : phases′ ≡ set phases w next
     pub input′ : Bag
     pub output′ : Bag
     pub moves : Moves (g .offsets) (g .targets) layer distances parents held-input held-output phase distances′ parents′ input′ output′ next
@@ -136,8 +139,8 @@ module _ {g : Given} {distances parents left right values : List ℕ} {inputs ou
   outputs-inside = omega (arith, even at .outputs-long, here)
 
   -- so some vertex is pending
-  pub some-pending : {distances′ parents′ left′ right′ values′ : List ℕ} {inputs′ outputs′ : List declared.Bag} {next : Phase} {found′ : ℕ}
-      → Worked distances′ parents′ left′ right′ values′ inputs′ outputs′ next found′ → 1 ≤ pending
+  pub some-pending : {distances′ parents′ left′ right′ values′ : List ℕ} {inputs′ outputs′ : List declared.Bag} {phases′ : List Phase} {found′ : ℕ}
+      → Worked distances′ parents′ left′ right′ values′ inputs′ outputs′ phases′ found′ → 1 ≤ pending
   some-pending worked =
       omega (
         arith,
@@ -149,12 +152,14 @@ module _ {g : Given} {distances parents left right values : List ℕ} {inputs ou
       )
 
   -- the run goes on
-  pub worked-on : {distances′ parents′ left′ right′ values′ : List ℕ} {inputs′ outputs′ : List declared.Bag} {next : Phase} {found′ : ℕ} (done : ℕ)
-      → Worked distances′ parents′ left′ right′ values′ inputs′ outputs′ next found′ → done + heldOf next ≡ 1
-      → Going g distances′ parents′ left′ right′ values′ inputs′ outputs′ (set phases w next) (pending - done) found′ (used + 1) (effective + 1) layer
+  pub worked-on : {distances′ parents′ left′ right′ values′ : List ℕ} {inputs′ outputs′ : List declared.Bag} {phases′ : List Phase} {found′ : ℕ} (done : ℕ)
+      → Worked distances′ parents′ left′ right′ values′ inputs′ outputs′ phases′ found′ → done + heldOf (getD phases′ w Free) ≡ 1
+      → Going g distances′ parents′ left′ right′ values′ inputs′ outputs′ phases′ (pending - done) found′ (used + 1) (effective + 1) layer
   unfolding afterMove orElse stateOf
-  worked-on {distances′} {parents′} {left′} {right′} {values′} {inputs′} {outputs′} {next} done worked told =
-      play-on turn
+  worked-on {distances′} {parents′} {left′} {right′} {values′} {inputs′} {outputs′} {phases′} done worked told =
+      let next = worked .next in
+      rw (worked .stored)
+      (play-on turn
       (record {
         distances-long = worked .long .distances-long;
         parents-long = worked .long .parents-long;
@@ -172,6 +177,7 @@ module _ {g : Given} {distances parents left right values : List ℕ} {inputs ou
         arith,
         at .waiting,
         told,
+        ap heldOf (ap (λ (l : List Phase). getD l w Free) (worked .stored) ∙ getD-set-same phases w next Free inside),
         worked .taken,
         some-pending worked,
         ap (sumOf size) (worked .bags .inputs-held),
@@ -189,24 +195,28 @@ module _ {g : Given} {distances parents left right values : List ℕ} {inputs ou
       ))
       (sym (ap someOne made))
       (ap (λ (ws : List model.Worker). record { labels = labelsOf distances′ parents′; workers = ws; layer = layer; finished = false }) crew-after
-      ∙ sym (ap (λ (o : Option model.State). orElse o (now-state at)) made))
+      ∙ sym (ap (λ (o : Option model.State). orElse o (now-state at)) made)))
     where
+      -- its phase is one of those there are
+      inside : w < length phases
+      inside = omega (arith, phases-there at, here)
+
       -- the worker then
       after : model.Worker
-      after = model.workerWith (worked .input′) (worked .output′) (phaseOf (g .offsets) next)
+      after = model.workerWith (worked .input′) (worked .output′) (phaseOf (g .offsets) (worked .next))
 
       made : act (graph g) (now-state at) (Work w) ≡ some (movedState (now-state at) w (after, labelsOf distances′ parents′))
       made = work-act ∙ ap (afterMove (now-state at) w) (worked .moves .made)
 
-      crew-after : crew g left′ right′ values′ inputs′ outputs′ (set phases w next) ≡ set (crew g left right values inputs outputs phases) w after
+      crew-after : crew g left′ right′ values′ inputs′ outputs′ (set phases w (worked .next)) ≡ set (crew g left right values inputs outputs phases) w after
       crew-after =
           rw (
             worked .bags .inputs-held,
             worked .bags .outputs-held,
-            take-set-lt (g .workers) phases w next here,
-            map-set (phaseOf (g .offsets)) (take (g .workers) phases) w next,
+            take-set-lt (g .workers) phases w (worked .next) here,
+            map-set (phaseOf (g .offsets)) (take (g .workers) phases) w (worked .next),
           )
-          (crew-set (held-inputs at) (held-outputs at) (shown-phases at) w (worked .input′) (worked .output′) (phaseOf (g .offsets) next))
+          (crew-set (held-inputs at) (held-outputs at) (shown-phases at) w (worked .input′) (worked .output′) (phaseOf (g .offsets) (worked .next)))
 
   -- bags that stay as they are, as one of them is put back
   input-back : set (held-inputs at) w held-input ≡ held-inputs at
@@ -223,8 +233,10 @@ module _ {g : Given} {distances parents left right values : List ℕ} {inputs ou
   -- `begin`
   pub begun-worked : phase ≡ Free → isEmpty held-input ≡ false → {left′ : List ℕ} {rest : declared.Bag} {next : Phase}
       → BegunFrom input (g .offsets) left right values left′ rest next
-      → Worked distances parents left′ right values (set inputs w rest) outputs next found
+      → Worked distances parents left′ right values (set inputs w rest) outputs (set phases w next) found
   begun-worked free filled {left′} {rest} {next} begun = record {
+    next = next;
+    stored = refl;
     input′ = heldBy left′ right values rest;
     output′ = held-output;
     moves = begun-moves distances parents layer ground held-output free filled
@@ -315,8 +327,10 @@ module _ {g : Given} {distances parents left right values : List ℕ} {inputs ou
     pub stowed-worked : {left′ right′ values′ : List ℕ} {more : declared.Bag} {next : Phase}
         → Inserted left right values output t left′ right′ values′ more
         → ((offsets : List ℕ) → f ≡ getD offsets (u + 1) 0 → next ≡ holdFrom offsets u (e + 1))
-        → Worked distances parents left′ right′ values′ inputs (set outputs w more) next (found + 1)
+        → Worked distances parents left′ right′ values′ inputs (set outputs w more) (set phases w next) (found + 1)
     stowed-worked {left′} {right′} {values′} {more} {next} inserted passed = record {
+      next = next;
+      stored = refl;
       input′ = held-input;
       output′ = heldBy left′ right′ values′ more;
       moves = stowed-moves distances parents layer ground held-input named (rw (at .long .distances-long) in-row) inserted
@@ -357,8 +371,10 @@ module _ {g : Given} {distances parents left right values : List ℕ} {inputs ou
   pub advanced-worked : {distances′ parents′ : List ℕ} {next : Phase} → Between (g .targets) (length distances) phase
       → ((offsets : List ℕ) → GraphRows offsets (g .targets) (length distances) → layer < length distances → InRows offsets (length distances) phase
       → Advanced phase layer offsets (g .targets) distances parents distances′ parents′ next)
-      → Worked distances′ parents′ left right values inputs outputs next found
+      → Worked distances′ parents′ left right values inputs outputs (set phases w next) found
   advanced-worked {distances′} {parents′} {next} between promised = record {
+    next = next;
+    stored = refl;
     input′ = held-input;
     output′ = held-output;
     moves = advanced-moves held-input held-output advanced;

@@ -68,15 +68,16 @@ pub fn run(
         match event {
             Event::Work { worker: w } => {
                 let phase = phases[w];
-                let next = if let Phase::Free = phase {
+                if let Phase::Free = phase {
                     let input = inputs[w];
                     if bag::is_empty(input) {
                         continue;
                     }
                     let begun = begin(input, offsets, left, right, values);
                     let rest = begun.input;
+                    let next = begun.phase;
                     inputs[w] = rest;
-                    begun.phase
+                    phases[w] = next;
                 } else if let Phase::Named {
                     vertex,
                     edge,
@@ -85,14 +86,15 @@ pub fn run(
                 } = phase {
                     let stowed = stow(outputs[w], vertex, edge, end, target, left, right, values);
                     let more = stowed.output;
+                    let next = stowed.phase;
                     outputs[w] = more;
+                    phases[w] = next;
                     found += 1;
-                    stowed.phase
                 } else {
-                    advance(phase, layer, targets, distances, parents)
-                };
-                phases[w] = next;
-                pending -= used_up(next);
+                    let next = advance(phase, layer, targets, distances, parents);
+                    phases[w] = next;
+                }
+                pending -= used_up(phases[w]);
                 effective += 1;
             }
             Event::Split { taker: w, giver: v } => {

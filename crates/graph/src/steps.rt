@@ -14,7 +14,6 @@ use crate::ReadAnswer;
 use crate::words::element;
 use crate::words::larger;
 use crate::words::largest_word;
-use crate::words::smaller;
 use crate::words::wide16;
 use crate::words::word;
 use crate::words::word16;
@@ -146,13 +145,24 @@ fn next_of(records: &[u8], index: usize) -> usize
     word(records, 2 * index + 1)
 }
 
-// The head of the vertex; from n on, where there is none, the last one.
+// The vertex; of n, which is none, the last one. It is told by n alone, which the walk has at hand.
+fn or_last(vertex: usize, n: usize) -> usize
+    requires { ⌜ 1 ≤ n ⌝ }
+    requires { ⌜ vertex ≤ n ⌝ }
+    ensures { λ r. ⌜ r ≡ min vertex (n - 1) ⌝ }
+{
+    let past = if vertex == n { 1 } else { 0 };
+    vertex - past
+}
+
+// The head of the vertex; of n, which is none, that of the last one.
 fn head_of(file: &[u8], n: usize, vertex: usize) -> usize
     requires { ⌜ 1 ≤ n ⌝ }
+    requires { ⌜ vertex ≤ n ⌝ }
     requires { ⌜ 2 * (2 + n) ≤ length (now file) ⌝ }
     ensures { λ r. ⌜ r ≡ headIndex (now (file .entry)) (min vertex (n - 1)) ⌝ }
 {
-    word(file, 2 + smaller(vertex, n - 1))
+    word(file, 2 + or_last(vertex, n))
 }
 
 // Follows every chain and marks each record it meets with its rank, 1 for the first, 2 for the next:

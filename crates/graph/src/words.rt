@@ -1,6 +1,6 @@
 // 16-bit words in a list of bytes, low byte first, and the elements of a list of 16-bit numbers.
 ghost use mathlib.Core.Path.{_≡_};
-ghost use Prim.Native.Nat.{_+_, _*_, _/_, _%_, _<_, _≤_, max, min};
+ghost use Prim.Native.Nat.{_+_, _*_, _/_, _%_, _<_, _≤_, max};
 ghost use lib.ListN.{length, getD, set};
 ghost use Rattle.lists.specs.Lists.{largest};
 ghost use Rattle.graph.specs.File.{wordsAt};
@@ -45,16 +45,6 @@ pub fn larger(x: u16, y: u16) -> u16
     ensures { λ r. ⌜ r ≡ max x y ⌝ }
 {
     if x < y {
-        return y;
-    }
-    x
-}
-
-// The smaller of two.
-pub fn smaller(x: usize, y: usize) -> usize
-    ensures { λ r. ⌜ r ≡ min x y ⌝ }
-{
-    if y < x {
         return y;
     }
     x

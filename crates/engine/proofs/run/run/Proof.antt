@@ -66,6 +66,9 @@ named-of-stow c = c .before .before .before .before .before
 abbrev stow-of-more : tie.After-more Inv-loop μ-loop → tie.After-stow-arg4 Inv-loop μ-loop
 stow-of-more c = c .before .before .before .before .before .before .before .before
 
+abbrev other-of-advanced : tie.After-slice-known16 Inv-loop μ-loop → tie.At-match3-keys2 Inv-loop μ-loop
+other-of-advanced c = c .before .before .before .before .before .before .before
+
 -- two workers, from the call of `split` or `unite` and from what follows it
 abbrev workers-of-split : tie.After-split-arg4 Inv-loop μ-loop → tie.After-event2 Inv-loop μ-loop
 workers-of-split c = c .before .before .before .before .before
@@ -161,10 +164,10 @@ between : (c : tie.At-match3-keys2 Inv-loop μ-loop) → let event = c .before .
 between c =
     between-now (work-turn (c .before .before .before .before)) (tagOf the-type) refl (λ u e f t. refl) (c .before .match2 .keys2) (c .match3 .keys2)
 
--- what a worker's move left, whichever it was: the lists, the bags, its next phase, and how many were found
+-- what a worker's move left, whichever it was: the lists, the bags, the phases, and how many were found
 moved : (c : tie.At-match2-came Inv-loop μ-loop) → let after = c .match2 in
     Worked (work-turn (c .before .before .before)) (after .distances) (after .parents) (after .left) (after .right) (after .values) (after .inputs)
-    (after .outputs) (after .next) (after .found)
+    (after .outputs) (after .phases) (after .found)
 moved c =
     let worker = work-turn (c .before .before .before) in
     ⊎-elim
@@ -252,6 +255,12 @@ mul-inputs c = place-fits 32 (work-place (work-turn (phase-of-test (test-of-begi
 array-set-from-inputs : tie.Need-array-set-from-inputs Inv-loop μ-loop
 array-set-from-inputs c = work-place (work-turn (phase-of-test (test-of-begin (begin-of-rest c) .before) .before .before))
 
+mul-phases : tie.Need-mul-phases Inv-loop μ-loop
+mul-phases c = place-fits 32 (work-place (work-turn (phase-of-test (test-of-begin (begin-of-rest c) .before) .before .before))) (search needs)
+
+array-set-from-phases : tie.Need-array-set-from-phases Inv-loop μ-loop
+array-set-from-phases c = work-place (work-turn (phase-of-test (test-of-begin (begin-of-rest c) .before) .before .before))
+
 enum-known-phase : tie.Need-enum-known-phase Inv-loop μ-loop
 enum-known-phase c = search needs
 
@@ -272,6 +281,12 @@ mul-outputs c = place-fits 32 (work-place (work-turn (phase-of-named (named-of-s
 array-set-from-outputs : tie.Need-array-set-from-outputs Inv-loop μ-loop
 array-set-from-outputs c = work-place (work-turn (phase-of-named (named-of-stow (stow-of-more c)) .before .before))
 
+mul-phases-2 : tie.Need-mul-phases-2 Inv-loop μ-loop
+mul-phases-2 c = place-fits 32 (work-place (work-turn (phase-of-named (named-of-stow (stow-of-more c)) .before .before))) (search needs)
+
+array-set-from-phases-2 : tie.Need-array-set-from-phases-2 Inv-loop μ-loop
+array-set-from-phases-2 c = work-place (work-turn (phase-of-named (named-of-stow (stow-of-more c)) .before .before))
+
 add-found : tie.Need-add-found Inv-loop μ-loop
 add-found c =
     let named = named-of-stow (stow-of-more c) in
@@ -282,27 +297,35 @@ advance-requires c κs =
     let other = c .before .before in
     advance-able (work-turn (other .before .before .before .before)) (between other)
 
-mul-phases : tie.Need-mul-phases Inv-loop μ-loop
-mul-phases c = place-fits 32 (work-place (work-turn (c .before .before .before))) (search needs)
+mul-phases-3 : tie.Need-mul-phases-3 Inv-loop μ-loop
+mul-phases-3 c = place-fits 32 (work-place (work-turn (other-of-advanced c .before .before .before .before))) (search needs)
 
-array-set-from-phases : tie.Need-array-set-from-phases Inv-loop μ-loop
-array-set-from-phases c = work-place (work-turn (c .before .before .before))
+array-set-from-phases-3 : tie.Need-array-set-from-phases-3 Inv-loop μ-loop
+array-set-from-phases-3 c = work-place (work-turn (other-of-advanced c .before .before .before .before))
+
+mul-used-up : tie.Need-mul-used-up Inv-loop μ-loop
+mul-used-up c = place-fits 32 (work-place (work-turn (c .before .before .before))) (search needs)
+
+array-copy-out-used-up : tie.Need-array-copy-out-used-up Inv-loop μ-loop
+array-copy-out-used-up c = work-place (work-turn (c .before .before .before))
 
 used-up-requires : tie.Need-used-up-requires Inv-loop μ-loop
 used-up-requires c κs = search needs
 
 sub-pending : tie.Need-sub-pending Inv-loop μ-loop
-sub-pending c = omega (arith, c .used-up .ensures, some-pending (work-turn (c .before .before .before .before)) (moved (c .before)))
+sub-pending c =
+    let came = c .before .before in
+    omega (arith, c .used-up .ensures, some-pending (work-turn (came .before .before .before)) (moved came))
 
 add-effective : tie.Need-add-effective Inv-loop μ-loop
-add-effective c = record { fits = effective-fits (work-turn (c .before .before .before .before)) }
+add-effective c = record { fits = effective-fits (work-turn (c .before .before .before .before .before)) }
 
 loop-less-2 : tie.Need-loop-less-2 Inv-loop μ-loop
-loop-less-2 c = omega (arith, head (c .before .before .before .before .before .before) .loop .inv .within)
+loop-less-2 c = omega (arith, head (c .before .before .before .before .before .before .before) .loop .inv .within)
 
 loop-again-2 : tie.Need-loop-again-2 Inv-loop μ-loop
 loop-again-2 c =
-    let came = c .before in
+    let came = c .before .before in
     worked-on (work-turn (came .before .before .before)) (c .used-up .result) (moved came) (c .used-up .ensures)
 
 enum-known-event-2 : tie.Need-enum-known-event-2 Inv-loop μ-loop
@@ -531,16 +554,22 @@ run-spec =
     begin-requires
     mul-inputs
     array-set-from-inputs
+    mul-phases
+    array-set-from-phases
     enum-known-phase
     mul-stow
     array-copy-out-stow
     stow-requires
     mul-outputs
     array-set-from-outputs
+    mul-phases-2
+    array-set-from-phases-2
     add-found
     advance-requires
-    mul-phases
-    array-set-from-phases
+    mul-phases-3
+    array-set-from-phases-3
+    mul-used-up
+    array-copy-out-used-up
     used-up-requires
     sub-pending
     add-effective
