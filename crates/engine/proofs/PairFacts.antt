@@ -24,7 +24,7 @@ use Rattle.workers.specs.Shown.{crewOf, stateOf}
 use Rattle.workers.specs.Steps.{splitRule, uniteRule, orElse, Exchanged}
 use Rattle.workers.proofs.PairFacts.{putInto, split-size, unite-size, split-act, unite-act}
 use Rattle.workers.proofs.BagsFacts.{bagsOf, inputs-pooled, outputs-pooled, inputs-after, outputs-after}
-use Rattle.engine.proofs.PlayingFacts.{Given, graph, crew, Going, Turn, now-state, enough, even, held-inputs, held-outputs, shown-phases}
+use Rattle.engine.proofs.PlayingFacts.{Given, graph, crew, Going, Turn, placed, now-state, enough, even, held-inputs, held-outputs, shown-phases}
 use Rattle.engine.proofs.PlayingFacts.{input-shown, output-shown, staffed, play-on, unmet-on}
 
 -- a rule for two bags of a list, and the same for the state: where the rule has nothing, both bags are put back
@@ -48,6 +48,13 @@ module _ (s : model.State) (bags : List Bag) (w v : ℕ) (workers : List Bag →
 some-put : {A B : Type 0} (into : A → B) (o : Option A) → someOne (putInto into o) ≡ someOne o
 some-put into none = refl
 some-put into (some x) = refl
+
+-- two bags replaced by two that have as many numbers
+exchanged-size : (bags : List Bag) (w v : ℕ) {a b : Bag} (first second : Bag) → w < length bags → v < length bags → (w ≡ v → ⊥)
+    → getD bags w emptyBag ≡ a → getD bags v emptyBag ≡ b → size first + size second ≡ size a + size b
+    → sumOf size (set (set bags v second) w first) ≡ sumOf size bags
+exchanged-size bags w v first second w-there v-there apart at-w at-v same =
+    omega (arith, sum-two size bags w v first second emptyBag w-there v-there apart, ap size at-w, ap size at-v)
 
 -- none is there
 none-put : {A : Type 0} (o : Option A) → 0 ≡ someOne o → o ≡ none
@@ -113,7 +120,7 @@ module _ {g : Given} {distances parents left right values : List ℕ} {inputs ou
 
     -- the two workers are two of eight
     pub split-places : (w < 8) × (v < 8)
-    split-places = (omega (arith, staffed turn .0, now .ready .accepted .few-workers), omega (arith, staffed turn .1, now .ready .accepted .few-workers))
+    split-places = (placed now (staffed turn .0), placed now (staffed turn .1))
 
     -- what `split` takes for granted
     pub split-able : Pooled left right (getD inputs v pastBag ∷ getD inputs w pastBag ∷ [])
@@ -133,6 +140,15 @@ module _ {g : Given} {distances parents left right values : List ℕ} {inputs ou
           rw (input-shown now w (staffed turn .0), input-shown now v (staffed turn .1)) at
           (split-act (graph g) (now-state now) (held-inputs now) (held-outputs now) (shown-phases now) (even now) refl w v)
 
+      -- as many numbers as before
+      split-kept : sumOf size (set (set (held-inputs now) v (heldBy left′ right′ values second)) w (heldBy left′ right′ values first)) ≡ sumOf size (held-inputs now)
+      split-kept =
+          exchanged-size (held-inputs now) w v (heldBy left′ right′ values first) (heldBy left′ right′ values second)
+          (rw (even now .inputs-long) (staffed turn .0)) (rw (even now .inputs-long) (staffed turn .1)) (staffed turn .2)
+          (input-shown now w (staffed turn .0)) (input-shown now v (staffed turn .1))
+          (ap (λ (p : Bag × Bag). size (p .0) + size (p .1)) (exchanged .made values)
+          ∙ split-size (heldBy left right values (getD inputs w pastBag)) (heldBy left right values (getD inputs v pastBag)))
+
       -- the run goes on
       pub split-on : met ≡ true
           → Going g distances parents left′ right′ values (set (set inputs v second) w first) outputs phases pending found (used + 1) (effective + 1) layer
@@ -142,22 +158,7 @@ module _ {g : Given} {distances parents left right values : List ℕ} {inputs ou
           exchange-on turn (held-inputs now) (λ l. crewOf l (held-outputs now) (shown-phases now)) refl w v split-rule split-by-rule (rw is at (exchanged .counted values))
           (rw (input-shown now w (staffed turn .0), input-shown now v (staffed turn .1)) (exchanged .made values))
           (ap₂ (λ (a b : List Bag). crewOf a b (shown-phases now)) (bags .inputs-held) (bags .outputs-held))
-          (bags .moved) (length-two inputs v w second first) refl (ap (sumOf size) (bags .inputs-held) ∙ exchanged-size) (ap (sumOf size) (bags .outputs-held))
-        where
-          -- as many numbers as before
-          exchanged-size : sumOf size (set (set (held-inputs now) v (heldBy left′ right′ values second)) w (heldBy left′ right′ values first)) ≡ sumOf size (held-inputs now)
-          exchanged-size =
-              let a = heldBy left right values (getD inputs w pastBag) in
-              let b = heldBy left right values (getD inputs v pastBag) in
-              omega (
-                arith,
-                sum-two size (held-inputs now) w v (heldBy left′ right′ values first) (heldBy left′ right′ values second) emptyBag
-                    (omega (arith, even now .inputs-long, staffed turn .0)) (omega (arith, even now .inputs-long, staffed turn .1)) (staffed turn .2),
-                ap size (input-shown now w (staffed turn .0)),
-                ap size (input-shown now v (staffed turn .1)),
-                ap (λ (p : Bag × Bag). size (p .0) + size (p .1)) (exchanged .made values),
-                split-size a b,
-              )
+          (bags .moved) (length-two inputs v w second first) refl (ap (sumOf size) (bags .inputs-held) ∙ split-kept) (ap (sumOf size) (bags .outputs-held))
 
       -- the condition isn't met: it goes on as it is
       pub split-unmet-on : met ≡ false
@@ -176,7 +177,7 @@ module _ {g : Given} {distances parents left right values : List ℕ} {inputs ou
 
     -- the two workers are two of eight
     pub unite-places : (w < 8) × (v < 8)
-    unite-places = (omega (arith, staffed turn .0, here .ready .accepted .few-workers), omega (arith, staffed turn .1, here .ready .accepted .few-workers))
+    unite-places = (placed here (staffed turn .0), placed here (staffed turn .1))
 
     -- what `unite` takes for granted
     pub unite-able : Pooled left right (getD outputs v pastBag ∷ getD outputs w pastBag ∷ [])
@@ -196,6 +197,15 @@ module _ {g : Given} {distances parents left right values : List ℕ} {inputs ou
           rw (output-shown here w (staffed turn .0), output-shown here v (staffed turn .1)) at
           (unite-act (graph g) (now-state here) (held-inputs here) (held-outputs here) (shown-phases here) (even here) refl w v)
 
+      -- as many numbers as before
+      unite-kept : sumOf size (set (set (held-outputs here) v (heldBy left′ right′ values second)) w (heldBy left′ right′ values first)) ≡ sumOf size (held-outputs here)
+      unite-kept =
+          exchanged-size (held-outputs here) w v (heldBy left′ right′ values first) (heldBy left′ right′ values second)
+          (rw (even here .outputs-long) (staffed turn .0)) (rw (even here .outputs-long) (staffed turn .1)) (staffed turn .2)
+          (output-shown here w (staffed turn .0)) (output-shown here v (staffed turn .1))
+          (ap (λ (p : Bag × Bag). size (p .0) + size (p .1)) (exchanged .made values)
+          ∙ unite-size (heldBy left right values (getD outputs w pastBag)) (heldBy left right values (getD outputs v pastBag)))
+
       -- the run goes on
       pub unite-on : met ≡ true
           → Going g distances parents left′ right′ values inputs (set (set outputs v second) w first) phases pending found (used + 1) (effective + 1) layer
@@ -205,22 +215,7 @@ module _ {g : Given} {distances parents left right values : List ℕ} {inputs ou
           exchange-on turn (held-outputs here) (λ l. crewOf (held-inputs here) l (shown-phases here)) refl w v unite-rule unite-by-rule (rw is at (exchanged .counted values))
           (rw (output-shown here w (staffed turn .0), output-shown here v (staffed turn .1)) (exchanged .made values))
           (ap₂ (λ (a b : List Bag). crewOf a b (shown-phases here)) (bags .inputs-held) (bags .outputs-held))
-          (bags .moved) refl (length-two outputs v w second first) (ap (sumOf size) (bags .inputs-held)) (ap (sumOf size) (bags .outputs-held) ∙ exchanged-size)
-        where
-          -- as many numbers as before
-          exchanged-size : sumOf size (set (set (held-outputs here) v (heldBy left′ right′ values second)) w (heldBy left′ right′ values first)) ≡ sumOf size (held-outputs here)
-          exchanged-size =
-              let a = heldBy left right values (getD outputs w pastBag) in
-              let b = heldBy left right values (getD outputs v pastBag) in
-              omega (
-                arith,
-                sum-two size (held-outputs here) w v (heldBy left′ right′ values first) (heldBy left′ right′ values second) emptyBag
-                    (omega (arith, even here .outputs-long, staffed turn .0)) (omega (arith, even here .outputs-long, staffed turn .1)) (staffed turn .2),
-                ap size (output-shown here w (staffed turn .0)),
-                ap size (output-shown here v (staffed turn .1)),
-                ap (λ (p : Bag × Bag). size (p .0) + size (p .1)) (exchanged .made values),
-                unite-size a b,
-              )
+          (bags .moved) refl (length-two outputs v w second first) (ap (sumOf size) (bags .inputs-held)) (ap (sumOf size) (bags .outputs-held) ∙ unite-kept)
 
       -- the condition isn't met: it goes on as it is
       pub unite-unmet-on : met ≡ false

@@ -122,6 +122,10 @@ module _ {g : Given} {distances parents left right values : List ℕ} {inputs ou
     pub few-workers : P ≤ maxWorkers
     few-workers = at .ready .accepted .few-workers
 
+    -- a worker that is there is one of eight
+    pub placed : {w : ℕ} → w < P → w < 8
+    placed here = omega (arith, few-workers)
+
     -- the model's state
     abbrev pub now-state : model.State
     now-state = stateOf distances parents (crew g left right values inputs outputs phases) layer

@@ -36,7 +36,7 @@ use Rattle.workers.proofs.MoveFacts.{Moves, rest-none, begun-moves, stowed-move
 use Rattle.workers.proofs.CrewFacts.{crew-long, crew-set, crew-loads}
 use Rattle.workers.proofs.BagsFacts.{bagsOf, BagsAfter, input-pooled, output-pooled, input-after, output-after}
 use Rattle.workers.proofs.IdleFacts.{held-one, busy-set, busy-some}
-use Rattle.engine.proofs.PlayingFacts.{Given, graph, crew, Long, Going, Turn, P, now-state, enough, phases-there, even, held-inputs, held-outputs, shown-phases}
+use Rattle.engine.proofs.PlayingFacts.{Given, graph, crew, Long, Going, Turn, placed, now-state, enough, phases-there, even, held-inputs, held-outputs, shown-phases}
 use Rattle.engine.proofs.PlayingFacts.{input-shown, output-shown, phase-shown, worker-shown, now-fits, layer-low, layer-fits, next-fits, staffed, play-on, unmet-on}
 
 module _ {g : Given} {distances parents left right values : List ℕ} {inputs outputs : List declared.Bag} {phases : List Phase} {pending found used effective layer w : ℕ}
@@ -51,7 +51,7 @@ module _ {g : Given} {distances parents left right values : List ℕ} {inputs ou
 
   -- one of eight
   pub work-place : w < 8
-  work-place = omega (arith, here, at .ready .accepted .few-workers)
+  work-place = placed at here
 
   -- its bags and its phase
   abbrev input : declared.Bag
