@@ -3,7 +3,7 @@
 use mathlib.Core.Path.{_≡_, refl, sym, ap, ap₂, subst, _∙_}
 use mathlib.Core.Bool.{Bool, true, false, cond}
 use mathlib.Core.List.{List, [], _∷_, map}
-use mathlib.Core.Option.{Option, none, some}
+use mathlib.Core.Option.{none, some}
 use Prim.Native.Nat.{ℕ, _+_, _≤_}
 use native.Mathlib.Numerals.{add-one}
 use native.Mathlib.Omega.{arith}
@@ -12,7 +12,7 @@ use borrow.Author.Tests.{eq-eqb, ne-eqb}
 use lib.Dec.{eqb}
 use lib.Seq.{take-all}
 use Rattle.numbers.specs.Numbers.{maxWorkers, success, unfinished}
-use Rattle.lists.specs.Lists.{someOne, sumOf}
+use Rattle.lists.specs.Lists.{sumOf}
 use Rattle.lists.proofs.Sums.{sum-at}
 use Rattle.lists.proofs.Parts.{getD-repeated}
 use Rattle.lists.proofs.Replaced.{map-replicate}
@@ -34,7 +34,7 @@ use Rattle.model.proofs.Workers.{idle-each}
 use Rattle.model.proofs.Plays.{play-append, play-finished}
 use Rattle.workers.specs.declared.Phase.{Phase}
 use Rattle.workers.specs.Shown.{phaseOf, stateOf}
-use Rattle.workers.specs.Steps.{orElse, Gathered, firstOfEight, allFree}
+use Rattle.workers.specs.Steps.{Gathered, firstOfEight, allFree}
 use Rattle.workers.proofs.CrewFacts.{crew-long, crew-at, crew-outputs}
 use Rattle.workers.proofs.IdleFacts.{allEmpty, idle-counted, bare-counted, united-size}
 use Rattle.workers.proofs.GatherFacts.{inputs-bare, gather-pooled, gathered-moved, gathered-held}
@@ -42,7 +42,7 @@ use Rattle.workers.proofs.OpenedFacts.{opened-workers, opened-moved, opened-siz
 use Rattle.engine.specs.declared.Answer.{Answer}
 use Rattle.engine.specs.Runs.{answerOf, Ran}
 use Rattle.engine.proofs.PlayingFacts.{Given, graph, crew, Going, Turn, now-state, enough, even, held-inputs, held-outputs}
-use Rattle.engine.proofs.PlayingFacts.{shown-phases, some-worker, few-workers, next-run, play-on, unmet-on}
+use Rattle.engine.proofs.PlayingFacts.{shown-phases, some-worker, few-workers, orElse, next-run, play-on, unmet-on}
 
 -- the answer and the labels of a run that is known
 ran-as : {r q : Run} {distances parents : List ℕ} {answer : Answer} {number : ℕ} → r ≡ q → answer ≡ answerOf number (q .used) (q .effective) (q .state .layer)
@@ -170,7 +170,7 @@ module _ {g : Given} {distances parents left right values : List ℕ} {inputs ou
           → Gathered (getD inputs 0 pastBag) (take (g .workers) outputs) left right left′ right′ b
           → inputs′ ≡ firstOfEight b → bare-one ≡ newBag → outputs′ ≡ firstOfEight bare-one → phases′ ≡ allFree
           → Going g distances parents left′ right′ values inputs′ outputs′ phases′ found 0 (used + 1) (effective + 1) (layer + 1)
-      unfolding orElse stateOf closed
+      unfolding stateOf closed
       opened-on some-found {left′} {right′} {b} gathered first new others free =
           rw (first, others, new, free)
           (play-on turn
@@ -200,12 +200,11 @@ module _ {g : Given} {distances parents left right values : List ℕ} {inputs ou
             ap size (held-none left′ right′ values),
             weigh-empty one,
           ))
-          (sym (ap someOne raised))
+          raised
           (ap₂ (λ (l : List model.Worker) (k : ℕ). record { labels = labelsOf distances parents; workers = l; layer = k; finished = false })
           (opened-workers (g .workers) (some-worker at) (few-workers at) (g .offsets) left′ right′ values b
           ∙ ap₂ (λ (l : List model.Worker) (x : Bag). set l 0 (model.workerWith x emptyBag model.free)) (sym each-idle) held)
-          (add-one layer)
-          ∙ sym (ap (λ (o : Option model.State). orElse o (now-state at)) raised)))
+          (add-one layer)))
         where
           -- it is not empty
           some-size : (found ≡ 0 → ⊥) → 1 ≤ size (unitedOutputs workers)

@@ -36,10 +36,15 @@ use Rattle.model.proofs.Theorem.{demand-holds}
 use Rattle.model.proofs.Used.{play-more}
 use Rattle.workers.specs.declared.Phase.{Phase}
 use Rattle.workers.specs.declared.Phase.the-variants.{Free}
-use Rattle.workers.specs.Shown.{crewOf, phaseOf, workersOf, stateOf}
-use Rattle.workers.specs.Steps.{InRows, heldOf, orElse}
+use Rattle.workers.specs.Shown.{phaseOf, workersOf, stateOf}
+use Rattle.workers.specs.Steps.{InRows, heldOf}
 use Rattle.workers.proofs.BagsFacts.{bagsOf, Enough}
 use Rattle.workers.proofs.CrewFacts.{Even, crew-at}
+
+-- what is there, or else the other
+unfoldable pub orElse : {A : Type 0} → Option A → A → A
+orElse none a = a
+orElse (some x) a = x
 
 -- What a run is given.
 
@@ -247,32 +252,30 @@ module _ {g : Given} {distances parents left right values : List ℕ} {inputs ou
     staffed = byte-staffed (g .workers) (getD (g .schedule) used 0) e (turn .event)
         (rw (turn .event) at (stray-at (g .workers) used (g .schedule) (at .ready .accepted .formed) (turn .below)))
 
-    -- after it the engine is where the model is
-    pub play-on : {distances′ parents′ left′ right′ values′ : List ℕ} {inputs′ outputs′ : List declared.Bag} {phases′ : List Phase} {pending′ found′ layer′ met : ℕ}
+    -- after it the engine is where the model is, if the table has a state for it
+    pub play-on : {distances′ parents′ left′ right′ values′ : List ℕ} {inputs′ outputs′ : List declared.Bag} {phases′ : List Phase} {pending′ found′ layer′ : ℕ}
+        {after : model.State}
         → Long g distances′ parents′ left′ right′ values′ inputs′ outputs′ phases′
         → Moved left right (bagsOf (g .workers) inputs outputs) left′ right′ (bagsOf (g .workers) inputs′ outputs′)
         → ((w : ℕ) → w < g .workers → InRows (g .offsets) (g .vertices) (getD phases′ w Free))
         → pending′ ≡ sumOf size (map (heldBy left′ right′ values′) (take (g .workers) inputs′)) + sumOf heldOf (take (g .workers) phases′)
         → found′ ≡ sumOf size (map (heldBy left′ right′ values′) (take (g .workers) outputs′))
-        → met ≡ someOne (act (graph g) (now-state at) e)
-        → stateOf distances′ parents′ (crew g left′ right′ values′ inputs′ outputs′ phases′) layer′ ≡ orElse (act (graph g) (now-state at) e) (now-state at)
-        → Going g distances′ parents′ left′ right′ values′ inputs′ outputs′ phases′ pending′ found′ (used + 1) (effective + met) layer′
-    play-on {met = met} long moved in-rows waiting stowed counts after = record {
+        → act (graph g) (now-state at) e ≡ some after
+        → stateOf distances′ parents′ (crew g left′ right′ values′ inputs′ outputs′ phases′) layer′ ≡ after
+        → Going g distances′ parents′ left′ right′ values′ inputs′ outputs′ phases′ pending′ found′ (used + 1) (effective + 1) layer′
+    unfolding orElse
+    play-on long moved in-rows waiting stowed made same = record {
       ready = at .ready;
       long = long;
       within = omega (arith, turn .below);
-      same = next-run ∙ ap₂ (λ (s : model.State) (k : ℕ). record { state = s; used = used + 1; effective = effective + k }) (sym after) (sym counts);
-      counted = omega (arith, at .counted, counts, some-few (act (graph g) (now-state at) e));
+      same = next-run ∙ rw (made, same) refl;
+      counted = omega (arith, at .counted);
       pool = moved-pool (at .pool) moved;
       whole = moved .nodes one ∙ at .whole;
       in-rows = in-rows;
       waiting = waiting;
       stowed = stowed;
     }
-      where
-        some-few : (o : Option model.State) → someOne o ≤ 1
-        some-few none = omega arith
-        some-few (some s) = omega arith
 
     -- after one whose condition isn't met it is where it was
     pub unmet-on : act (graph g) (now-state at) e ≡ none

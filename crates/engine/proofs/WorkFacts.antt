@@ -1,15 +1,15 @@
 -- A worker's move in a run: what its steps take for granted holds, and after it the engine is where the model is.
-use mathlib.Core.Path.{_≡_, refl, sym, ap, ap₂, subst, _∙_}
+use mathlib.Core.Path.{_≡_, refl, sym, ap, _∙_}
 use mathlib.Core.Bool.{Bool, true, false}
 use mathlib.Core.Logic.{_⊎_}
-use mathlib.Core.List.{List, [], _∷_, map, map-append}
-use mathlib.Core.Option.{Option, none, some}
+use mathlib.Core.List.{List, [], _∷_, map-append}
+use mathlib.Core.Option.{some}
 use Prim.Native.Nat.{ℕ, suc, _+_, _-_, _*_, _≤_, _<_}
 use native.Mathlib.Nat.{mul-le-mul}
 use native.Mathlib.Omega.{arith}
 use lib.ListN.{length, getD, set, take, length-set}
 use lib.Seq.{take-set-lt, set-getD, getD-set-same}
-use Rattle.lists.specs.Lists.{sumOf, someOne}
+use Rattle.lists.specs.Lists.{sumOf}
 use Rattle.lists.proofs.Sums.{sum-set, sum-at, sum-append}
 use Rattle.lists.proofs.Replaced.{map-set, set-each}
 use Rattle.graph.specs.Steps.{GraphRows}
@@ -29,15 +29,15 @@ use Rattle.model.specs.Words.{labelsOf}
 use Rattle.model.specs.Demand.{held}
 use Rattle.workers.specs.declared.Phase.{Phase}
 use Rattle.workers.specs.declared.Phase.the-variants.{Free, Named}
-use Rattle.workers.specs.Shown.{crewOf, phaseOf, stateOf}
-use Rattle.workers.specs.Steps.{EdgeOf, InRows, holdFrom, Between, Advanced, BegunFrom, heldOf, orElse}
+use Rattle.workers.specs.Shown.{phaseOf, stateOf}
+use Rattle.workers.specs.Steps.{EdgeOf, InRows, holdFrom, Between, Advanced, BegunFrom, heldOf}
 use Rattle.workers.proofs.RowFacts.{edge-small, fits-as}
 use Rattle.workers.proofs.MoveFacts.{Moves, rest-none, begun-moves, stowed-moves, advanced-moves, between-others, not-between}
 use Rattle.workers.proofs.CrewFacts.{crew-long, crew-set, crew-loads}
 use Rattle.workers.proofs.BagsFacts.{bagsOf, BagsAfter, input-pooled, output-pooled, input-after, output-after}
 use Rattle.workers.proofs.IdleFacts.{held-one, busy-set, busy-some}
 use Rattle.engine.proofs.PlayingFacts.{Given, graph, crew, Long, Going, Turn, placed, now-state, enough, phases-there, even, held-inputs, held-outputs, shown-phases}
-use Rattle.engine.proofs.PlayingFacts.{input-shown, output-shown, phase-shown, worker-shown, now-fits, layer-low, layer-fits, next-fits, staffed, play-on, unmet-on}
+use Rattle.engine.proofs.PlayingFacts.{input-shown, output-shown, worker-shown, now-fits, layer-low, layer-fits, next-fits, staffed, orElse, play-on, unmet-on}
 
 module _ {g : Given} {distances parents left right values : List ℕ} {inputs outputs : List declared.Bag} {phases : List Phase} {pending found used effective layer w : ℕ}
     (turn : Turn g distances parents left right values inputs outputs phases pending found used effective layer (Work w)) where
@@ -155,7 +155,7 @@ module _ {g : Given} {distances parents left right values : List ℕ} {inputs ou
   pub worked-on : {distances′ parents′ left′ right′ values′ : List ℕ} {inputs′ outputs′ : List declared.Bag} {phases′ : List Phase} {found′ : ℕ} (done : ℕ)
       → Worked distances′ parents′ left′ right′ values′ inputs′ outputs′ phases′ found′ → done + heldOf (getD phases′ w Free) ≡ 1
       → Going g distances′ parents′ left′ right′ values′ inputs′ outputs′ phases′ (pending - done) found′ (used + 1) (effective + 1) layer
-  unfolding afterMove orElse stateOf
+  unfolding afterMove stateOf
   worked-on {distances′} {parents′} {left′} {right′} {values′} {inputs′} {outputs′} {phases′} done worked told =
       let next = worked .next in
       rw (worked .stored)
@@ -193,9 +193,7 @@ module _ {g : Given} {distances parents left right values : List ℕ} {inputs ou
         sum-set size (held-outputs at) w (worked .output′) emptyBag outputs-inside,
         ap size (output-shown at w here),
       ))
-      (sym (ap someOne made))
-      (ap (λ (ws : List model.Worker). record { labels = labelsOf distances′ parents′; workers = ws; layer = layer; finished = false }) crew-after
-      ∙ sym (ap (λ (o : Option model.State). orElse o (now-state at)) made)))
+      made (ap (λ (ws : List model.Worker). record { labels = labelsOf distances′ parents′; workers = ws; layer = layer; finished = false }) crew-after))
     where
       -- its phase is one of those there are
       inside : w < length phases

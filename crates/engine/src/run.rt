@@ -10,11 +10,11 @@ use workers::Phase;
 use workers::advance;
 use workers::all_free;
 use workers::begin;
+use workers::can_split;
+use workers::can_unite;
 use workers::first_of_eight;
 use workers::gather;
-use workers::split;
 use workers::stow;
-use workers::unite;
 use workers::used_up;
 
 // The run's answer.
@@ -98,45 +98,40 @@ pub fn run(
                 effective += 1;
             }
             Event::Split { taker: w, giver: v } => {
-                let shared = split(inputs[w], inputs[v], left, right);
-                if !shared.met {
-                    continue;
+                if can_split(inputs[w], inputs[v]) {
+                    let halves = bag::split(inputs[v], left, right);
+                    let kept = halves.first;
+                    let given = halves.second;
+                    inputs[v] = kept;
+                    inputs[w] = given;
+                    effective += 1;
                 }
-                let taker = shared.first;
-                let giver = shared.second;
-                inputs[v] = giver;
-                inputs[w] = taker;
-                effective += 1;
             }
             Event::Unite { giver: w, taker: v } => {
-                let shared = unite(outputs[w], outputs[v], left, right);
-                if !shared.met {
-                    continue;
+                if can_unite(outputs[w], outputs[v]) {
+                    let united = bag::union(outputs[v], outputs[w], left, right);
+                    outputs[v] = united;
+                    outputs[w] = bag::empty();
+                    effective += 1;
                 }
-                let giver = shared.first;
-                let taker = shared.second;
-                outputs[v] = taker;
-                outputs[w] = giver;
-                effective += 1;
             }
             Event::Close => {
-                if pending != 0 {
-                    continue;
+                if pending == 0 {
+                    // "d grows by 1", unless the search is finished; the close is effective either way.
+                    let next = layer + 1;
+                    let counted = effective + 1;
+                    if found == 0 {
+                        return conclude(numbers::SUCCESS, used, counted, layer);
+                    }
+                    let united = gather(inputs[0], outputs, workers, left, right);
+                    layer = next;
+                    effective = counted;
+                    pending = found;
+                    found = 0;
+                    inputs = first_of_eight(united);
+                    outputs = first_of_eight(bag::empty());
+                    phases = all_free();
                 }
-                // "d grows by 1", unless the search is finished; the close is effective either way.
-                let next = layer + 1;
-                let counted = effective + 1;
-                if found == 0 {
-                    return conclude(numbers::SUCCESS, used, counted, layer);
-                }
-                let united = gather(inputs[0], outputs, workers, left, right);
-                layer = next;
-                effective = counted;
-                pending = found;
-                found = 0;
-                inputs = first_of_eight(united);
-                outputs = first_of_eight(bag::empty());
-                phases = all_free();
             }
             Event::Malformed => {}
         }

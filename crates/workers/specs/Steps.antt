@@ -1,16 +1,15 @@
--- What the steps of the search take for granted and what they promise: one worker's move, two workers' exchange, the close. A prime marks what
--- stands there afterwards. No outside contract cites these.
+-- What the steps of the search take for granted and what they promise: one worker's move, the close. A prime marks what stands there afterwards.
+-- No outside contract cites these.
 use mathlib.Core.Path.{_≡_}
-use mathlib.Core.Bool.{Bool, false, cond, not, _&&_}
+use mathlib.Core.Bool.{cond}
 use mathlib.Core.List.{List, [], _∷_, map, foldl}
-use mathlib.Core.Option.{Option, none, some}
+use mathlib.Core.Option.{some}
 use Prim.Native.Nat.{ℕ, _+_, _≤_, _<_}
 use lib.Dec.{eqb, ltb}
 use lib.ListN.{length, getD, replicate, set}
 use Rattle.numbers.specs.Numbers.{maxWorkers, unset}
-use Rattle.lists.specs.Lists.{someOne}
 use Rattle.graph.specs.Graph.{rowsOf}
-use Rattle.pennant.specs.Bag.{Bag, emptyBag, isEmpty, atLeastTwo, bagUnion, splitFirst, splitSecond, takenNumber}
+use Rattle.pennant.specs.Bag.{Bag, bagUnion, takenNumber}
 use Rattle.bag.specs.declared.Bag as declared
 use Rattle.bag.specs.Nodes.{heldBy, newBag}
 use Rattle.bag.specs.Promises.{Moved, TakenFrom}
@@ -73,32 +72,6 @@ holdFirst offsets u = holdFrom offsets u (getD offsets u 0)
 pub record BegunFrom (input : declared.Bag) (offsets left right values left′ : List ℕ) (input′ : declared.Bag) (phase′ : Phase) : Type 0 where
   pub taken : TakenFrom left right values input left′ input′ (takenNumber (heldBy left right values input))
   pub held : phase′ ≡ holdFirst offsets (takenNumber (heldBy left right values input))
-
--- Two workers, w and v of an event byte: what the event table has for the bags concerned, w's first; `none` where the condition isn't met.
-
--- kind 1: the input bags of taker and giver
-unfoldable pub splitRule : Bag → Bag → Option (Bag × Bag)
-splitRule taker giver = cond (isEmpty taker && atLeastTwo giver) (some (splitSecond giver, splitFirst giver)) none
-
--- kind 2: the output bags of giver and taker
-unfoldable pub uniteRule : Bag → Bag → Option (Bag × Bag)
-uniteRule giver taker = cond (not (isEmpty giver) && not (isEmpty taker)) (some (emptyBag, bagUnion taker giver)) none
-
--- what is there, or else the other
-unfoldable pub orElse : {A : Type 0} → Option A → A → A
-orElse none a = a
-orElse (some x) a = x
-
--- the two bags after an exchange by the rule: they hold what it says; where it has nothing for them, bags and lists are as they were; numbers stay
--- where they are
-pub record Exchanged (rule : Bag → Bag → Option (Bag × Bag)) (first second : declared.Bag) (left right left′ right′ : List ℕ)
-    (first′ second′ : declared.Bag) (met : Bool) : Type 0 where
-  pub counted : (values : List ℕ) → cond met 1 0 ≡ someOne (rule (heldBy left right values first) (heldBy left right values second))
-  pub made : (values : List ℕ) → _≡_ {A = Bag × Bag} (heldBy left′ right′ values first′, heldBy left′ right′ values second′)
-      (orElse (rule (heldBy left right values first) (heldBy left right values second)) (heldBy left right values first, heldBy left right values second))
-  pub moved : Moved left right (second ∷ first ∷ []) left′ right′ (second′ ∷ first′ ∷ [])
-  pub same-left : met ≡ false → left′ ≡ left
-  pub same-right : met ≡ false → right′ ≡ right
 
 -- All workers.
 

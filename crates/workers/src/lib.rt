@@ -1,5 +1,5 @@
-// The workers of a search: what one of them does at an event, what two exchange, and what all do at a
-// close. All workers' input bags, output bags and phases stand in three arrays; a step takes the bags
+// The workers of a search: what one of them does at an event, when two may exchange, and what all do at
+// a close. All workers' input bags, output bags and phases stand in three arrays; a step takes the bags
 // and the phase that it is about, by value, and gives them back. These are inner steps: they may
 // assume what their callers prove.
 use bag::Bag;
@@ -15,8 +15,8 @@ pub use crew::used_up;
 pub use moves::advance;
 pub use moves::begin;
 pub use moves::stow;
-pub use pairs::split;
-pub use pairs::unite;
+pub use pairs::can_split;
+pub use pairs::can_unite;
 
 // "A worker is free, holds a device with a link to look at, or is partway through a link": the
 // vertex, its edge by its place in the targets, where the vertex's edges end, and the edge's target.
@@ -57,11 +57,4 @@ pub struct Begun {
 pub struct Stowed {
     pub output: Bag,
     pub phase: Phase,
-}
-
-// The bags of w and v after an exchange, and whether its condition was met.
-pub struct Exchange {
-    pub first: Bag,
-    pub second: Bag,
-    pub met: bool,
 }

@@ -1,19 +1,18 @@
 -- `engine::run::run` meets its contract. The invariant: the engine's values are those of the model's run over the bytes so far (Going). The measure is
 -- the bytes that are left.
 use borrow.Author.Needs.{needs}
-use borrow.Author.Tests.{not-true, not-false}
 use native.Mathlib.Omega.{arith}
-use mathlib.Core.Path.{_≡_, refl, sym, ap, _∙_}
+use mathlib.Core.Path.{_≡_, refl, sym, _∙_}
 use mathlib.Core.Logic.{⊎-elim}
 use denote.Enum.Declared.{tagOf}
 use Rattle.workers.proofs.Phase.{the-type}
-use Prim.Native.Nat.{ℕ, _-_, _<_}
+use Prim.Native.Nat.{_-_}
 use lib.ListN.{length, getD}
 use Rattle.workers.specs.declared.Phase.the-variants.{Free}
 use Rattle.workers.specs.Steps.{Between}
 use Rattle.schedule.specs.declared.Event.{Event}
 use Rattle.schedule.specs.declared.Event.the-variants.{Work, Split, Unite, Close}
-use Rattle.engine.proofs.PlayingFacts.{Given, Going, Turn, turn-of, place-fits, layer-fits, used-fits, effective-fits, few-workers, malformed-on}
+use Rattle.engine.proofs.PlayingFacts.{Given, Going, Turn, turn-of, place-fits, layer-fits, used-fits, effective-fits, malformed-on}
 use Rattle.engine.proofs.StartFacts.{givenBy, SameLengths, source-there, start-on}
 use Rattle.engine.proofs.WorkFacts.{work-place, input-told, rest-on, begin-able, stow-able, between-now, advance-able, some-pending, found-fits, worked-on}
 use Rattle.engine.proofs.WorkFacts.{Worked, begun-worked, stowed-worked, advanced-worked}
@@ -69,18 +68,24 @@ stow-of-more c = c .before .before .before .before .before .before .before .befo
 abbrev other-of-advanced : tie.After-slice-known16 Inv-loop μ-loop → tie.At-match3-keys2 Inv-loop μ-loop
 other-of-advanced c = c .before .before .before .before .before .before .before
 
--- two workers, from the call of `split` or `unite` and from what follows it
-abbrev workers-of-split : tie.After-split-arg4 Inv-loop μ-loop → tie.After-event2 Inv-loop μ-loop
-workers-of-split c = c .before .before .before .before .before
+-- two workers, from the test of their bags; the test, from the call of `split` or `union`; and that call, from what follows it
+abbrev workers-of-split : tie.After-can-split Inv-loop μ-loop → tie.After-event2 Inv-loop μ-loop
+workers-of-split c = c .before .before .before .before
 
-abbrev split-of-test : tie.After-struct-known Inv-loop μ-loop → tie.After-split Inv-loop μ-loop
-split-of-test c = c .before .before .before .before .before
+abbrev test-of-split : tie.After-split-arg3 Inv-loop μ-loop → tie.Then2 Inv-loop μ-loop
+test-of-split c = c .before .before .before
 
-abbrev workers-of-unite : tie.After-unite-arg4 Inv-loop μ-loop → tie.After-event3 Inv-loop μ-loop
-workers-of-unite c = c .before .before .before .before .before
+abbrev split-of-given : tie.After-given Inv-loop μ-loop → tie.After-split Inv-loop μ-loop
+split-of-given c = c .before .before .before .before .before .before
 
-abbrev unite-of-test : tie.After-struct-known2 Inv-loop μ-loop → tie.After-unite Inv-loop μ-loop
-unite-of-test c = c .before .before .before .before .before
+abbrev workers-of-unite : tie.After-can-unite Inv-loop μ-loop → tie.After-event3 Inv-loop μ-loop
+workers-of-unite c = c .before .before .before .before
+
+abbrev test-of-union : tie.After-union-arg4 Inv-loop μ-loop → tie.Then3 Inv-loop μ-loop
+test-of-union c = c .before .before .before .before
+
+abbrev union-of-united : tie.After-slice-known20 Inv-loop μ-loop → tie.After-union Inv-loop μ-loop
+union-of-united c = c .before .before .before .before
 
 -- a close, from the call of `gather` and from what follows it
 abbrev found-of-gather : tie.After-gather-arg3 Inv-loop μ-loop → tie.Else5 Inv-loop μ-loop
@@ -331,111 +336,128 @@ loop-again-2 c =
 enum-known-event-2 : tie.Need-enum-known-event-2 Inv-loop μ-loop
 enum-known-event-2 c = search needs
 
+mul-can-split : tie.Need-mul-can-split Inv-loop μ-loop
+mul-can-split c = place-fits 32 (split-places (split-turn (c .before)) .0) (search needs)
+
+array-copy-out-can-split : tie.Need-array-copy-out-can-split Inv-loop μ-loop
+array-copy-out-can-split c = split-places (split-turn (c .before)) .0
+
+mul-can-split-2 : tie.Need-mul-can-split-2 Inv-loop μ-loop
+mul-can-split-2 c = place-fits 32 (split-places (split-turn (c .before .before)) .1) (search needs)
+
+array-copy-out-can-split-2 : tie.Need-array-copy-out-can-split-2 Inv-loop μ-loop
+array-copy-out-can-split-2 c = split-places (split-turn (c .before .before)) .1
+
+can-split-requires : tie.Need-can-split-requires Inv-loop μ-loop
+can-split-requires c κs = search needs
+
 mul-split : tie.Need-mul-split Inv-loop μ-loop
-mul-split c = place-fits 32 (split-places (split-turn (c .before)) .0) (search needs)
+mul-split c = place-fits 32 (split-places (split-turn (workers-of-split (c .before))) .1) (search needs)
 
 array-copy-out-split : tie.Need-array-copy-out-split Inv-loop μ-loop
-array-copy-out-split c = split-places (split-turn (c .before)) .0
-
-mul-split-2 : tie.Need-mul-split-2 Inv-loop μ-loop
-mul-split-2 c = place-fits 32 (split-places (split-turn (c .before .before)) .1) (search needs)
-
-array-copy-out-split-2 : tie.Need-array-copy-out-split-2 Inv-loop μ-loop
-array-copy-out-split-2 c = split-places (split-turn (c .before .before)) .1
+array-copy-out-split c = split-places (split-turn (workers-of-split (c .before))) .1
 
 split-requires : tie.Need-split-requires Inv-loop μ-loop
-split-requires c κs = split-able (split-turn (workers-of-split c))
+split-requires c κs = split-able (split-turn (workers-of-split (test-of-split c .before)))
+
+mul-inputs-2 : tie.Need-mul-inputs-2 Inv-loop μ-loop
+mul-inputs-2 c = place-fits 32 (split-places (split-turn (workers-of-split (test-of-split (split-of-given c .before) .before))) .1) (search needs)
+
+array-set-from-inputs-2 : tie.Need-array-set-from-inputs-2 Inv-loop μ-loop
+array-set-from-inputs-2 c = split-places (split-turn (workers-of-split (test-of-split (split-of-given c .before) .before))) .1
+
+mul-inputs-3 : tie.Need-mul-inputs-3 Inv-loop μ-loop
+mul-inputs-3 c = place-fits 32 (split-places (split-turn (workers-of-split (test-of-split (split-of-given c .before) .before))) .0) (search needs)
+
+array-set-from-inputs-3 : tie.Need-array-set-from-inputs-3 Inv-loop μ-loop
+array-set-from-inputs-3 c = split-places (split-turn (workers-of-split (test-of-split (split-of-given c .before) .before))) .0
+
+add-effective-2 : tie.Need-add-effective-2 Inv-loop μ-loop
+add-effective-2 c = record { fits = effective-fits (split-turn (workers-of-split (test-of-split (split-of-given c .before) .before))) }
 
 loop-less-3 : tie.Need-loop-less-3 Inv-loop μ-loop
 loop-less-3 c = search needs
 
 loop-again-3 : tie.Need-loop-again-3 Inv-loop μ-loop
 loop-again-3 c =
-    let made = split-of-test (c .before) in
-    split-unmet-on (split-turn (workers-of-split (made .before))) (made .split .ensures) (not-true _ (c .if2 .taken))
-
-mul-inputs-2 : tie.Need-mul-inputs-2 Inv-loop μ-loop
-mul-inputs-2 c = place-fits 32 (split-places (split-turn (workers-of-split (split-of-test (c .before .before .before) .before))) .1) (search needs)
-
-array-set-from-inputs-2 : tie.Need-array-set-from-inputs-2 Inv-loop μ-loop
-array-set-from-inputs-2 c = split-places (split-turn (workers-of-split (split-of-test (c .before .before .before) .before))) .1
-
-mul-inputs-3 : tie.Need-mul-inputs-3 Inv-loop μ-loop
-mul-inputs-3 c = place-fits 32 (split-places (split-turn (workers-of-split (split-of-test (c .before .before .before) .before))) .0) (search needs)
-
-array-set-from-inputs-3 : tie.Need-array-set-from-inputs-3 Inv-loop μ-loop
-array-set-from-inputs-3 c = split-places (split-turn (workers-of-split (split-of-test (c .before .before .before) .before))) .0
-
-add-effective-2 : tie.Need-add-effective-2 Inv-loop μ-loop
-add-effective-2 c = record { fits = effective-fits (split-turn (workers-of-split (split-of-test (c .before .before .before) .before))) }
+    let made = split-of-given c in
+    let test = test-of-split (made .before) in
+    split-on (split-turn (workers-of-split (test .before))) (test .before .can-split .ensures) (test .if2 .taken) (made .split .ensures)
 
 loop-less-4 : tie.Need-loop-less-4 Inv-loop μ-loop
 loop-less-4 c = search needs
 
 loop-again-4 : tie.Need-loop-again-4 Inv-loop μ-loop
-loop-again-4 c =
-    let test = c .before .before in
-    let made = split-of-test (test .before) in
-    split-on (split-turn (workers-of-split (made .before))) (made .split .ensures) (not-false _ (test .if2 .left))
+loop-again-4 c = split-unmet-on (split-turn (workers-of-split (c .before))) (c .before .can-split .ensures) (c .if2 .left)
 
 enum-known-event-3 : tie.Need-enum-known-event-3 Inv-loop μ-loop
 enum-known-event-3 c = search needs
 
-mul-unite : tie.Need-mul-unite Inv-loop μ-loop
-mul-unite c = place-fits 32 (unite-places (unite-turn (c .before)) .0) (search needs)
+mul-can-unite : tie.Need-mul-can-unite Inv-loop μ-loop
+mul-can-unite c = place-fits 32 (unite-places (unite-turn (c .before)) .0) (search needs)
 
-array-copy-out-unite : tie.Need-array-copy-out-unite Inv-loop μ-loop
-array-copy-out-unite c = unite-places (unite-turn (c .before)) .0
+array-copy-out-can-unite : tie.Need-array-copy-out-can-unite Inv-loop μ-loop
+array-copy-out-can-unite c = unite-places (unite-turn (c .before)) .0
 
-mul-unite-2 : tie.Need-mul-unite-2 Inv-loop μ-loop
-mul-unite-2 c = place-fits 32 (unite-places (unite-turn (c .before .before)) .1) (search needs)
+mul-can-unite-2 : tie.Need-mul-can-unite-2 Inv-loop μ-loop
+mul-can-unite-2 c = place-fits 32 (unite-places (unite-turn (c .before .before)) .1) (search needs)
 
-array-copy-out-unite-2 : tie.Need-array-copy-out-unite-2 Inv-loop μ-loop
-array-copy-out-unite-2 c = unite-places (unite-turn (c .before .before)) .1
+array-copy-out-can-unite-2 : tie.Need-array-copy-out-can-unite-2 Inv-loop μ-loop
+array-copy-out-can-unite-2 c = unite-places (unite-turn (c .before .before)) .1
 
-unite-requires : tie.Need-unite-requires Inv-loop μ-loop
-unite-requires c κs = unite-able (unite-turn (workers-of-unite c))
+can-unite-requires : tie.Need-can-unite-requires Inv-loop μ-loop
+can-unite-requires c κs = search needs
+
+mul-union : tie.Need-mul-union Inv-loop μ-loop
+mul-union c = place-fits 32 (unite-places (unite-turn (workers-of-unite (c .before))) .1) (search needs)
+
+array-copy-out-union : tie.Need-array-copy-out-union Inv-loop μ-loop
+array-copy-out-union c = unite-places (unite-turn (workers-of-unite (c .before))) .1
+
+mul-union-2 : tie.Need-mul-union-2 Inv-loop μ-loop
+mul-union-2 c = place-fits 32 (unite-places (unite-turn (workers-of-unite (c .before .before))) .0) (search needs)
+
+array-copy-out-union-2 : tie.Need-array-copy-out-union-2 Inv-loop μ-loop
+array-copy-out-union-2 c = unite-places (unite-turn (workers-of-unite (c .before .before))) .0
+
+union-requires : tie.Need-union-requires Inv-loop μ-loop
+union-requires c κs = unite-able (unite-turn (workers-of-unite (test-of-union c .before)))
+
+mul-outputs-2 : tie.Need-mul-outputs-2 Inv-loop μ-loop
+mul-outputs-2 c = place-fits 32 (unite-places (unite-turn (workers-of-unite (test-of-union (union-of-united c .before) .before))) .1) (search needs)
+
+array-set-from-outputs-2 : tie.Need-array-set-from-outputs-2 Inv-loop μ-loop
+array-set-from-outputs-2 c = unite-places (unite-turn (workers-of-unite (test-of-union (union-of-united c .before) .before))) .1
+
+empty-requires-2 : tie.Need-empty-requires-2 Inv-loop μ-loop
+empty-requires-2 c κs = search needs
+
+mul-outputs-3 : tie.Need-mul-outputs-3 Inv-loop μ-loop
+mul-outputs-3 c = place-fits 32 (unite-places (unite-turn (workers-of-unite (test-of-union (union-of-united (c .before) .before) .before))) .0) (search needs)
+
+array-set-from-outputs-3 : tie.Need-array-set-from-outputs-3 Inv-loop μ-loop
+array-set-from-outputs-3 c = unite-places (unite-turn (workers-of-unite (test-of-union (union-of-united (c .before) .before) .before))) .0
+
+add-effective-3 : tie.Need-add-effective-3 Inv-loop μ-loop
+add-effective-3 c = record { fits = effective-fits (unite-turn (workers-of-unite (test-of-union (union-of-united (c .before) .before) .before))) }
 
 loop-less-5 : tie.Need-loop-less-5 Inv-loop μ-loop
 loop-less-5 c = search needs
 
 loop-again-5 : tie.Need-loop-again-5 Inv-loop μ-loop
 loop-again-5 c =
-    let made = unite-of-test (c .before) in
-    unite-unmet-on (unite-turn (workers-of-unite (made .before))) (made .unite .ensures) (not-true _ (c .if3 .taken))
-
-mul-outputs-2 : tie.Need-mul-outputs-2 Inv-loop μ-loop
-mul-outputs-2 c = place-fits 32 (unite-places (unite-turn (workers-of-unite (unite-of-test (c .before .before .before) .before))) .1) (search needs)
-
-array-set-from-outputs-2 : tie.Need-array-set-from-outputs-2 Inv-loop μ-loop
-array-set-from-outputs-2 c = unite-places (unite-turn (workers-of-unite (unite-of-test (c .before .before .before) .before))) .1
-
-mul-outputs-3 : tie.Need-mul-outputs-3 Inv-loop μ-loop
-mul-outputs-3 c = place-fits 32 (unite-places (unite-turn (workers-of-unite (unite-of-test (c .before .before .before) .before))) .0) (search needs)
-
-array-set-from-outputs-3 : tie.Need-array-set-from-outputs-3 Inv-loop μ-loop
-array-set-from-outputs-3 c = unite-places (unite-turn (workers-of-unite (unite-of-test (c .before .before .before) .before))) .0
-
-add-effective-3 : tie.Need-add-effective-3 Inv-loop μ-loop
-add-effective-3 c = record { fits = effective-fits (unite-turn (workers-of-unite (unite-of-test (c .before .before .before) .before))) }
+    let made = union-of-united (c .before) in
+    let test = test-of-union (made .before) in
+    unite-on (unite-turn (workers-of-unite (test .before))) (test .before .can-unite .ensures) (test .if3 .taken) (made .union .ensures) (c .empty2 .ensures)
 
 loop-less-6 : tie.Need-loop-less-6 Inv-loop μ-loop
 loop-less-6 c = search needs
 
 loop-again-6 : tie.Need-loop-again-6 Inv-loop μ-loop
-loop-again-6 c =
-    let test = c .before .before in
-    let made = unite-of-test (test .before) in
-    unite-on (unite-turn (workers-of-unite (made .before))) (made .unite .ensures) (not-false _ (test .if3 .left))
+loop-again-6 c = unite-unmet-on (unite-turn (workers-of-unite (c .before))) (c .before .can-unite .ensures) (c .if3 .left)
 
 enum-told-2 : tie.Need-enum-told-2 Inv-loop μ-loop
 enum-told-2 c = search needs
-
-loop-less-7 : tie.Need-loop-less-7 Inv-loop μ-loop
-loop-less-7 c = search needs
-
-loop-again-7 : tie.Need-loop-again-7 Inv-loop μ-loop
-loop-again-7 c = pending-on (close-turn (c .before)) (c .if4 .taken)
 
 add-next : tie.Need-add-next Inv-loop μ-loop
 add-next c = record { fits = layer-fits (close-turn (c .before) .going) }
@@ -464,7 +486,7 @@ same-length-5 c = lengths (head (c .before .before .before .before .before)) .of
 returns : tie.Need-returns Inv-loop μ-loop
 returns c =
     let none-pending = c .before .before in
-    finished-ran (close-turn (none-pending .before)) (none-pending .if4 .left) (c .before .if5 .taken) (c .conclude .ensures)
+    finished-ran (close-turn (none-pending .before)) (none-pending .if4 .taken) (c .before .if5 .taken) (c .conclude .ensures)
 
 array-copy-out-gather : tie.Need-array-copy-out-gather Inv-loop μ-loop
 array-copy-out-gather c = search needs
@@ -472,13 +494,13 @@ array-copy-out-gather c = search needs
 gather-requires : tie.Need-gather-requires Inv-loop μ-loop
 gather-requires c κs =
     let none-pending = found-of-gather c .before in
-    gather-able (close-turn (none-pending .before)) (none-pending .if4 .left)
+    gather-able (close-turn (none-pending .before)) (none-pending .if4 .taken)
 
 first-of-eight-requires-3 : tie.Need-first-of-eight-requires-3 Inv-loop μ-loop
 first-of-eight-requires-3 c κs = search needs
 
-empty-requires-2 : tie.Need-empty-requires-2 Inv-loop μ-loop
-empty-requires-2 c κs = search needs
+empty-requires-3 : tie.Need-empty-requires-3 Inv-loop μ-loop
+empty-requires-3 c κs = search needs
 
 first-of-eight-requires-4 : tie.Need-first-of-eight-requires-4 Inv-loop μ-loop
 first-of-eight-requires-4 c κs = search needs
@@ -486,16 +508,22 @@ first-of-eight-requires-4 c κs = search needs
 all-free-requires-2 : tie.Need-all-free-requires-2 Inv-loop μ-loop
 all-free-requires-2 c κs = search needs
 
+loop-less-7 : tie.Need-loop-less-7 Inv-loop μ-loop
+loop-less-7 c = search needs
+
+loop-again-7 : tie.Need-loop-again-7 Inv-loop μ-loop
+loop-again-7 c =
+    let gathered = gather-of-united (c .before .before .before .before) in
+    let some-found = found-of-gather (gathered .before) in
+    let none-pending = some-found .before in
+    opened-on (close-turn (none-pending .before)) (none-pending .if4 .taken) (some-found .if5 .left) (gathered .gather .ensures)
+    (c .before .before .before .first-of-eight3 .ensures) (c .before .before .empty3 .ensures) (c .before .first-of-eight4 .ensures) (c .all-free2 .ensures)
+
 loop-less-8 : tie.Need-loop-less-8 Inv-loop μ-loop
 loop-less-8 c = search needs
 
 loop-again-8 : tie.Need-loop-again-8 Inv-loop μ-loop
-loop-again-8 c =
-    let gathered = gather-of-united (c .before .before .before .before) in
-    let some-found = found-of-gather (gathered .before) in
-    let none-pending = some-found .before in
-    opened-on (close-turn (none-pending .before)) (none-pending .if4 .left) (some-found .if5 .left) (gathered .gather .ensures)
-    (c .before .before .before .first-of-eight3 .ensures) (c .before .before .empty2 .ensures) (c .before .first-of-eight4 .ensures) (c .all-free2 .ensures)
+loop-again-8 c = pending-on (close-turn (c .before)) (c .if4 .left)
 
 enum-told-3 : tie.Need-enum-told-3 Inv-loop μ-loop
 enum-told-3 c = search needs
@@ -576,38 +604,45 @@ run-spec =
     loop-less-2
     loop-again-2
     enum-known-event-2
+    mul-can-split
+    array-copy-out-can-split
+    mul-can-split-2
+    array-copy-out-can-split-2
+    can-split-requires
     mul-split
     array-copy-out-split
-    mul-split-2
-    array-copy-out-split-2
     split-requires
-    loop-less-3
-    loop-again-3
     mul-inputs-2
     array-set-from-inputs-2
     mul-inputs-3
     array-set-from-inputs-3
     add-effective-2
+    loop-less-3
+    loop-again-3
     loop-less-4
     loop-again-4
     enum-known-event-3
-    mul-unite
-    array-copy-out-unite
-    mul-unite-2
-    array-copy-out-unite-2
-    unite-requires
-    loop-less-5
-    loop-again-5
+    mul-can-unite
+    array-copy-out-can-unite
+    mul-can-unite-2
+    array-copy-out-can-unite-2
+    can-unite-requires
+    mul-union
+    array-copy-out-union
+    mul-union-2
+    array-copy-out-union-2
+    union-requires
     mul-outputs-2
     array-set-from-outputs-2
+    empty-requires-2
     mul-outputs-3
     array-set-from-outputs-3
     add-effective-3
+    loop-less-5
+    loop-again-5
     loop-less-6
     loop-again-6
     enum-told-2
-    loop-less-7
-    loop-again-7
     add-next
     add-counted
     conclude-requires
@@ -620,9 +655,11 @@ run-spec =
     array-copy-out-gather
     gather-requires
     first-of-eight-requires-3
-    empty-requires-2
+    empty-requires-3
     first-of-eight-requires-4
     all-free-requires-2
+    loop-less-7
+    loop-again-7
     loop-less-8
     loop-again-8
     enum-told-3
