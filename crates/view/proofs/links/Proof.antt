@@ -1,16 +1,15 @@
--- `view::links` meets its contract: with 11 the part is empty and at the front, and otherwise what the view's test ruled out says that both
--- offsets are there, in order and within the targets.
+-- `view::links` meets its contract: where the two offsets fall the part is empty and at the front, and otherwise it goes from one to the other.
 use borrow.Author.Needs.{needs}
 use native.Mathlib.Omega.{arith}
-use mathlib.Core.Path.{ap, _∙_}
-use denote.Ref.{now}
+use Prim.Native.Nat.{_<_}
+use mathlib.Core.Path.{ap}
 use Rattle.graph.specs.Links.{wordPlace}
-use Rattle.view.proofs.InView.{InView, no-start, no-part, in-view, part-between}
+use Rattle.view.proofs.InView.{no-start, no-part, part-start, part-between}
 use Rattle.view.proofs.links.Statement.{statement}
 use Rattle.view.proofs.links.Tie as tie
 
-links-number-requires : tie.Need-links-number-requires
-links-number-requires c κs = search needs
+bounds-requires : tie.Need-bounds-requires
+bounds-requires c κs = search needs
 
 mul-result : tie.Need-mul-result
 mul-result c = search needs
@@ -26,57 +25,39 @@ part-result-end c = search needs
 
 returns : tie.Need-returns
 returns c =
-    let made = c .before .before .links-number .ensures in
-    let refused = c .before .if1 .taken in
+    let test = c .before .before .bounds .ensures .0 in
+    let row = c .before .before .bounds .result in
+    let falls : row .end < row .start = omega arith in
     let targets = c .before .before .before .before .before .args .targets .ptr in
-    (ap (wordPlace targets) (no-start _ _ _ _ made refused), no-part _ _ _ _ made refused)
-
--- what the code needs of the vertex, once the number is 0
-seen : (c : tie.Else1) → InView (now (c .before .before .before .before .args .offsets)) (now (c .before .before .before .before .args .targets)) (c .before .before .before .before .args .vertex)
-seen c = in-view _ _ _ _ (c .before .links-number .ensures) (c .if1 .left)
-
-element-requires : tie.Need-element-requires
-element-requires c κs = omega (arith, seen c .inside)
-
-add-element : tie.Need-add-element
-add-element c = omega (arith, seen (c .before) .inside)
-
-element-requires-2 : tie.Need-element-requires-2
-element-requires-2 c κs = seen (c .before) .inside
+    (ap (wordPlace targets) (no-start _ _ _ _ _ test falls), no-part _ _ _ _ _ test falls)
 
 mul-result-2 : tie.Need-mul-result-2
 mul-result-2 c = search needs
 
-sub-result-2 : tie.Need-sub-result-2
-sub-result-2 c = omega (arith, seen (c .before .before))
-
 part-result-start-2 : tie.Need-part-result-start-2
-part-result-start-2 c = omega (arith, seen (c .before .before))
+part-result-start-2 c = search needs
 
 part-result-end-2 : tie.Need-part-result-end-2
-part-result-end-2 c = omega (arith, seen (c .before .before))
+part-result-end-2 c = search needs
 
 returns-2 : tie.Need-returns-2
 returns-2 c =
-    let view = seen (c .before .before .before) in
-    let start = c .before .before .element .ensures .0 in
-    (ap (wordPlace _) (start ∙ view .start), part-between view start (c .before .element2 .ensures .0))
+    let made = c .before .before .bounds .ensures in
+    let rises = c .before .if1 .left in
+    let start = made .1 .1 .0 rises in
+    (ap (wordPlace _) (part-start _ _ _ _ _ (made .0) rises start), part-between _ _ _ _ _ (made .0) rises start (made .1 .1 .1 rises))
 
 pub links-spec : {M : Type 1} → statement M
 links-spec =
     tie.close
     (tie.spec
-    links-number-requires
+    bounds-requires
     mul-result
     sub-result
     part-result-start
     part-result-end
     returns
-    element-requires
-    add-element
-    element-requires-2
     mul-result-2
-    sub-result-2
     part-result-start-2
     part-result-end-2
     returns-2)
