@@ -1,9 +1,9 @@
 -- Workers whose input bags, output bags and phases stand in three lists: how many, one of them, all of them with one replaced, what they hold.
-use mathlib.Core.Path.{_≡_, refl, sym, ap, _∙_}
+use mathlib.Core.Path.{_≡_, refl, ap}
 use mathlib.Core.List.{List, [], _∷_, map}
 use Prim.Native.Nat.{ℕ, zero, suc, _+_}
 use native.Mathlib.Omega.{arith}
-use lib.ListN.{length, getD, set, replicate, length-set}
+use lib.ListN.{length, getD, set, replicate}
 use lib.Seq.{set-getD}
 use Rattle.lists.specs.Lists.{sumOf}
 use Rattle.pennant.specs.Bag.{Bag, emptyBag}

@@ -1,5 +1,5 @@
 -- One worker's moves as the table has them: the two with a bag, those without, and when there is none.
-use mathlib.Core.Path.{_≡_, refl, sym, ap, _∙_, subst}
+use mathlib.Core.Path.{_≡_, sym, ap, _∙_, subst}
 use mathlib.Core.Bool.{true, false}
 use mathlib.Core.Logic.{_⊎_, inl, inr}
 use mathlib.Core.List.{List}
@@ -9,7 +9,7 @@ use native.Mathlib.Omega.{arith}
 use lib.ListN.{length, getD}
 use Rattle.graph.specs.Graph.{Graph, rowsOf}
 use Rattle.graph.specs.Steps.{GraphRows}
-use Rattle.pennant.specs.Bag.{Bag, isEmpty, takeRest, takenNumber, bagInsert}
+use Rattle.pennant.specs.Bag.{Bag, isEmpty, takeRest, takenNumber}
 use Rattle.pennant.specs.Held.{copies}
 use Rattle.pennant.proofs.Laws.{taken-held}
 use Rattle.bag.specs.declared.Bag as declared

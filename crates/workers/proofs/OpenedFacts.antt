@@ -1,10 +1,10 @@
 -- A layer that opens: eight bags of which the first is given, eight empty ones and eight free phases. What the first P of them hold, which workers
 -- they stand for, and that no node is lost where the given bag has them all.
-use mathlib.Core.Path.{_≡_, refl, sym, ap, ap₂, _∙_}
+use mathlib.Core.Path.{_≡_, sym, ap, ap₂, _∙_}
 use mathlib.Core.List.{List, [], _∷_, _++_, map}
-use Prim.Native.Nat.{ℕ, zero, suc, _+_, _≤_, _<_}
+use Prim.Native.Nat.{ℕ, _+_, _≤_}
 use native.Mathlib.Omega.{arith}
-use lib.ListN.{length, getD, set, take, replicate, length-replicate}
+use lib.ListN.{getD, set, take, replicate, length-replicate}
 use lib.Seq.{take-set-lt}
 use Rattle.numbers.specs.Numbers.{maxWorkers}
 use Rattle.lists.specs.Lists.{sumOf}
@@ -16,8 +16,8 @@ use Rattle.pennant.specs.Held.{size, one}
 use Rattle.pennant.proofs.Laws.{weigh-empty}
 use Rattle.bag.specs.declared.Bag as declared
 use Rattle.bag.specs.Nodes.{heldBy, newBag}
-use Rattle.bag.specs.Promises.{weighNodes, Formed, Pooled, Moved}
-use Rattle.bag.proofs.Family.{weigh-both, weigh-first, same-moved, moved-pool}
+use Rattle.bag.specs.Promises.{weighNodes, Formed, Moved}
+use Rattle.bag.proofs.Family.{weigh-both, weigh-first, same-moved}
 use Rattle.bag.proofs.FormedFacts.{all-new, formed-set, formed-append}
 use Rattle.bag.proofs.Free.{weigh-new}
 use Rattle.bag.proofs.HeldFacts.{held-none}

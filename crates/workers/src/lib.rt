@@ -1,5 +1,5 @@
 // The workers of a search: what one of them does at an event, when two may exchange, and what all do at
-// a close. All workers' input bags, output bags and phases stand in three arrays; a step takes the bags
+// a close. All workers' input bags, output bags and phases stand in three arrays; a move takes the bag
 // and the phase that it is about, by value, and gives them back. These are inner steps: they may
 // assume what their callers prove.
 use bag::Bag;

@@ -1,5 +1,5 @@
--- `view::bounds` meets its contract: each way out rewrites the view's test with the tests that led there. 1 and 0 fall, so nothing more is to be
--- shown of them.
+-- `view::bounds` meets its contract: each way out rewrites the view's test with the tests that led there. 1 and 0 fall, so nothing
+-- is to be shown of the offsets there.
 use borrow.Author.Needs.{needs}
 use borrow.Author.Tests.{lt-ltb, le-ltb}
 use mathlib.Core.Bool.{or-true}

@@ -1,7 +1,7 @@
 -- `workers::moves::begin` meets its contract: the number that is taken is a vertex, so its row is there, and it is held at its first edge.
 use borrow.Author.Needs.{needs}
 use native.Mathlib.Omega.{arith}
-use mathlib.Core.Path.{_≡_, ap, _∙_}
+use mathlib.Core.Path.{ap, _∙_}
 use Prim.Native.Nat.{ℕ, _+_, _<_}
 use lib.ListN.{length, getD}
 use Rattle.workers.proofs.MoveFacts.{taken-copies, begun-from}
