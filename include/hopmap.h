@@ -1,8 +1,8 @@
 /* The C interface of the proved library: reader, writer, search, checker and pages.
  *
  * To link: `rt staticlib capi` proves the library and writes target/staticlib/libcapi.a, for x86-64
- * Linux. It needs nothing but memcpy and memset of the C library. examples/search.c and
- * examples/search.py show a whole call.
+ * Linux. It needs nothing but memcpy and memset of the C library. examples/search.c,
+ * examples/check_and_page.c and examples/search.py show whole calls.
  *
  * Words: n is the file's number of devices (1 to 4,096), m its number of links (0 to 32,768), P the
  * number of workers (1 to 8). The file is the hearing file, the schedule the sheet of event bytes
@@ -10,8 +10,10 @@
  *
  * Every function returns a number: 0 is success, any other says what stopped the call. No input is
  * forbidden: a file, a source, a P or a schedule that cannot be taken, and a list that is too short
- * (20), have their numbers. docs/NUMBERS.md explains them all. What is said of a list below holds
- * with 0; what it holds with any other number, which is mostly what it held before, is there too.
+ * (20), have their numbers. A function tries its numbers in the order that is given with it, and
+ * returns the first that applies, or 0 where none does. docs/NUMBERS.md explains them all. What is
+ * said of a list below holds with 0; what it holds with any other number, which is mostly what it
+ * held before, is in docs/SPECIFICATION.md, section 10.
  *
  * Lists: each is a pointer with its length in places, not bytes, behind it; `answer` alone has a
  * fixed length. A list may be longer than its need, and places past the need are left as they are.
@@ -19,7 +21,11 @@
  *   - no pointer is null, not even one with length 0;
  *   - each points to as many places as its length says;
  *   - each is aligned to its type: 16-bit lists to 2 bytes, `answer` to 4;
- *   - a list lent for writing (one without const) overlaps no other list of the call.
+ *   - each place holds a value at entry. Initialise every list, also one that is only written: C
+ *     leaves it undefined what reading an uninitialised object does, and the proofs are about lists
+ *     of numbers;
+ *   - a list lent for writing (one without const) overlaps no other list of the call;
+ *   - during the call no other thread writes a list of the call, nor reads one lent for writing.
  *
  * A call allocates nothing, keeps nothing after it returns, and there is no state beside the lists:
  * several threads may call at the same time, each with its own lists. Lists that are only read
@@ -31,8 +37,70 @@
 #include <stddef.h>
 #include <stdint.h>
 
+/* The version of this interface. It rises by one whenever the arguments of a function, a list's
+ * need or what a number means changes; a new function, number or macro beside the old ones leaves
+ * it. CHANGELOG.md says what changed in each. So a caller that was written for an older header can
+ * be told apart when it is compiled:
+ *
+ *     #if HOPMAP_VERSION != 1
+ *     #error "written for version 1 of hopmap.h"
+ *     #endif
+ *
+ * The archive has no version that could be tested: take header and archive from the same tree.
+ */
+#define HOPMAP_VERSION 1
+
+/* The numbers. */
+#define HOPMAP_SUCCESS 0       /* success */
+#define HOPMAP_BAD_LENGTH 1    /* the file is under 4 bytes, or its length does not fit its n and m */
+#define HOPMAP_BAD_SIZE 2      /* n or m is outside its size */
+#define HOPMAP_BAD_TARGET 3    /* a target is n or more */
+#define HOPMAP_BAD_INDEX 4     /* a head or next index is above m */
+#define HOPMAP_REPEATED 5      /* a record is reached a second time */
+#define HOPMAP_UNREACHED 6     /* a record is never reached */
+#define HOPMAP_BAD_SOURCE 7    /* the source is n or more */
+#define HOPMAP_BAD_WORKERS 8   /* the number of workers is outside 1 to 8 */
+#define HOPMAP_BAD_SCHEDULE 9  /* the sheet is too long, or a byte of it is no event of these workers */
+#define HOPMAP_BAD_RESULT 10   /* the result is wrong */
+#define HOPMAP_BAD_ROWS 11     /* the rows are malformed */
+#define HOPMAP_SHORT_LIST 20   /* a lent list is shorter than its need */
+#define HOPMAP_UNFINISHED 21   /* the sheet is spent and the search isn't finished */
+
 /* A distance or parent that is unset. */
 #define HOPMAP_UNSET 65535
+
+/* The limits: the most devices, links, workers and event bytes. */
+#define HOPMAP_MAX_VERTICES 4096
+#define HOPMAP_MAX_EDGES 32768
+#define HOPMAP_MAX_WORKERS 8
+#define HOPMAP_MAX_EVENTS 5000000
+
+/* Sizes, for n, m and P within the limits. Each is a size_t, and a constant where its arguments
+ * are, so that it can be the length of an array; with the limits as arguments it is the most that
+ * any call needs. An argument may be evaluated more than once.
+ */
+
+/* The bytes of a hearing file. */
+#define HOPMAP_FILE_BYTES(n, m) (2 * (2 + (size_t)(n) + 2 * (size_t)(m)))
+
+/* The places of offsets. */
+#define HOPMAP_OFFSET_PLACES(n) ((size_t)(n) + 1)
+
+/* The places of each of the search's node lists: left, right and values. */
+#define HOPMAP_NODE_PLACES(P, n) ((size_t)(P) * (size_t)(n) + 1)
+
+/* The pages, one for every 50 devices begun, and their bytes: 21 to a line, with a line for each
+ * device and one for each page.
+ */
+#define HOPMAP_PAGES(n) (((size_t)(n) + 49) / 50)
+#define HOPMAP_PAGE_BYTES(n) (21 * ((size_t)(n) + HOPMAP_PAGES(n)))
+
+/* No search has more effective events than this, and a schedule with at least as many full rounds
+ * always finishes. A full round has P + 1 bytes: 8 * w for the workers w from 0 to P - 1, which is
+ * work, then 192, which is close. The bytes of so many rounds are at most HOPMAP_MAX_EVENTS,
+ * whatever n, m and P are.
+ */
+#define HOPMAP_EVENT_BOUND(P, n, m) ((size_t)(P) * (6 * (size_t)(n) + (size_t)(m)) + (size_t)(n))
 
 #ifdef __cplusplus
 extern "C" {
@@ -46,7 +114,7 @@ extern "C" {
  *   marks    working room: m places, left 0
  *   answer   written, whatever the number: the number, n, m; with another number than 0 zeros
  *            for n and m
- * Returns answer[0].
+ * Returns answer[0]; the order is 1 (under 4 bytes), 2, 1 (length), 4, 3, 20, 5, 6.
  */
 size_t hopmap_read(const uint8_t *file, size_t file_len,
                    uint16_t *offsets, size_t offsets_len,
@@ -57,8 +125,8 @@ size_t hopmap_read(const uint8_t *file, size_t file_len,
 /* Writes rows as a hearing file, which the reader reads back as the same rows.
  *   offsets  read: n + 1 places, no more, from 0 up to m; so n is offsets_len - 1
  *   targets  read: m places, no more, each below n; so m is targets_len
- *   file     written: 2 * (2 + n + 2 * m) places
- * Returns the number.
+ *   file     written: HOPMAP_FILE_BYTES(n, m) places
+ * Returns the number; the order is 11, 20.
  */
 size_t hopmap_write(const uint16_t *offsets, size_t offsets_len,
                     const uint16_t *targets, size_t targets_len,
@@ -75,12 +143,13 @@ size_t hopmap_write(const uint16_t *offsets, size_t offsets_len,
  *                   where no path leads there
  *   parents         written: n places, the device before it on a shortest path, or unset; the
  *                   source's parent is the source
- *   left, right,    working room: P * n + 1 places each, left 0
+ *   left, right,    working room: HOPMAP_NODE_PLACES(P, n) places each, left 0
  *   values
  *   answer          written, whatever the number: the number, events used, effective events and the
  *                   last layer d; with another number than 0 and 21 zeros for these three
  * With 21 the schedule is spent and the search is not finished: the lists are as with 0, but only
- * some distances and parents are written yet. Returns answer[0].
+ * some distances and parents are written yet.
+ * Returns answer[0]; the order is 1 (under 4 bytes), 2, 1 (length), 4, 3, 7, 8, 9, 20, 5, 6, 21.
  */
 size_t hopmap_search(const uint8_t *file, size_t file_len,
                      size_t source,
@@ -96,14 +165,15 @@ size_t hopmap_search(const uint8_t *file, size_t file_len,
                      uint16_t *values, size_t values_len,
                      uint32_t answer[4]);
 
-/* Checks a finished result: 0 exactly where these distances and parents are right for this file and
- * this source, and 10 where they are wrong.
+/* Checks a finished result. 0 exactly where no other number applies: file and source are in order,
+ * every list is long enough, and these distances and parents are right for this file and this
+ * source. 10 exactly where no number before it applies and they are wrong.
  *   file                read: the hearing file's bytes
  *   source              a device, below n
  *   distances, parents  read: n places each, as the search writes them
  *   offsets             written: n + 1 places, as the reader's
  *   targets, marks      written: m places each, as the reader's
- * Returns the number.
+ * Returns the number; the order is 1 (under 4 bytes), 2, 1 (length), 4, 3, 7, 20, 5, 6, 10.
  */
 size_t hopmap_check(const uint8_t *file, size_t file_len,
                     size_t source,
@@ -115,9 +185,8 @@ size_t hopmap_check(const uint8_t *file, size_t file_len,
 
 /* Checks a finished result and, where it is right, lays it out on pages for paper.
  *   file .. marks  as the checker's
- *   bytes          written, with 0 alone: 21 * (n + pages) places; there is a page for every 50
- *                  devices begun, so pages is (n + 49) / 50 in whole numbers
- * Returns the number.
+ *   bytes          written, with 0 alone: HOPMAP_PAGE_BYTES(n) places
+ * Returns the number; the order is the checker's, then 20 where bytes alone is too short.
  */
 size_t hopmap_page(const uint8_t *file, size_t file_len,
                    size_t source,

@@ -16,7 +16,7 @@ const SEED: u64 = 1;
 
 /// How the engines take turns: each is called for at least so long before the other's turn comes,
 /// and how often. In a long turn an engine's call follows its own, and the processor may have learnt
-/// the schedule's branches; in a short one, of a call or a few, it follows the other engine's.
+/// the schedule's branches; in a short one, of a call or a few, it follows another engine's.
 pub struct Turns {
     pub shortest: Duration,
     pub repeats: usize,

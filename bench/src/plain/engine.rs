@@ -1,4 +1,4 @@
-//! The search under a schedule: the tests in document 01's order, then the events.
+//! The search under a schedule: the tests in the order of docs/SPECIFICATION.md, §10.2, then the events.
 
 use super::bag::{Bag, Pool};
 use super::file::File;
@@ -179,7 +179,7 @@ impl Run<'_> {
     }
 }
 
-/// Whether a byte is none of document 01's forms, or names a worker that isn't there.
+/// Whether a byte is none of the forms of §5.2, or names a worker that isn't there.
 fn is_stray(event: u8, workers: u8) -> bool {
     let (kind, w, v) = (event >> 6, event >> 3 & 7, event & 7);
     let work = (kind == 0) & (v == 0) & (w < workers);

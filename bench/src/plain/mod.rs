@@ -1,5 +1,6 @@
-//! The plain implementation: the rules of document 01 and of request 2.1 in safe Rust, written for
-//! speed and from the papers alone. It shares no line with the proved library.
+//! The plain implementation: the rules of docs/SPECIFICATION.md in safe Rust, written for speed. It was
+//! written from the papers, from the documents and, for the adder, from the library's table (DECISIONS 90),
+//! and shares no line with the proved library.
 #![forbid(unsafe_code)]
 
 pub mod bag;

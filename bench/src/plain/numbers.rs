@@ -1,4 +1,4 @@
-//! The numbers and sizes of document 01.
+//! The numbers and sizes (docs/SPECIFICATION.md, §10.1 and §1.3).
 
 pub const DONE: usize = 0;
 pub const LENGTH: usize = 1;

@@ -1,6 +1,7 @@
--- Pennants and bags of nodes in two lists, left and right, and the free chain through left. Nodes are numbered from 1; 0 is none. A slot's
--- place k says how deep its pennant goes: k levels of the lists are read, and no NULL is needed to end them. `declared.Bag` is the code's
--- struct, `Bag` the bag of trees that it stands for.
+-- Pennants and bags of nodes in two lists, left and right, and the free chain through left.
+-- Nodes are numbered from 1; 0 is none. A slot's place k says how deep its pennant goes: k levels of the lists
+-- are read, whatever the lists hold below them. `declared.Bag` is the code's struct, `Bag` the bag of trees
+-- that it stands for.
 use Prim.Native.Nat.{ℕ, zero, suc}
 use mathlib.Core.List.{List, [], _∷_}
 use lib.ListN.{length, getD, replicate}
@@ -53,7 +54,8 @@ newBag = bagWith emptySlots
 abbrev pub pastBag : declared.Bag
 pastBag = bagWith []
 
--- "Free nodes are chained by a next index, zero ends the chain": the chain from x on through left, at most so many
+-- "Free nodes are chained by a next index, zero ends the chain": the chain from x on through left,
+-- at most `steps` nodes
 unfoldable pub freeFrom : List ℕ → ℕ → ℕ → List ℕ
 freeFrom left steps x = chainFrom (λ n. getD left n 0) steps x
 

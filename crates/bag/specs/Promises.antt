@@ -1,4 +1,5 @@
--- What the operations on bags take for granted and what they promise. A prime marks what stands there afterwards.
+-- What the operations on bags take for granted and what they promise: their contracts cite these records.
+-- A prime marks what stands there afterwards.
 use Prim.Native.Nat.{ℕ, _+_, _≤_, _<_}
 use mathlib.Core.Path.{_≡_}
 use mathlib.Core.Bool.{cond, _&&_}
@@ -19,7 +20,7 @@ inPool places x = cond (ltb 0 x && ltb x places) 1 0
 unfoldable pub weighNodes : (ℕ → ℕ) → List ℕ → List ℕ → List declared.Bag → ℕ
 weighNodes f left right bags = sumOf (λ (bag : declared.Bag). weigh f (nodesOf left right bag)) bags
 
--- the same over the free chain
+-- the sum of f over the nodes of the free chain
 unfoldable pub weighFree : (ℕ → ℕ) → List ℕ → ℕ
 weighFree f left = sumOf f (freeNodes left)
 
@@ -31,7 +32,7 @@ uses x left right bags = weighNodes (only x) left right bags + weighFree (only x
 pub record Formed (bag : declared.Bag) : Type 0 where
   pub sixteen : length (bag .slots) ≡ slotCount
 
--- bags that all are such
+-- bags that all have 16 slots
 abbrev pub AllFormed : List declared.Bag → Type 0
 AllFormed [] = Unit {0}
 AllFormed (bag ∷ bags) = Formed bag × AllFormed bags
@@ -50,10 +51,12 @@ pub record Pooled (left right : List ℕ) (bags : List declared.Bag) : Type 0 wh
   pub formed : AllFormed bags
 
 -- what an operation on these bags does to the nodes
-pub record Moved (left right : List ℕ) (bags : List declared.Bag) (left′ right′ : List ℕ) (bags′ : List declared.Bag) : Type 0 where
+pub record Moved (left right : List ℕ) (bags : List declared.Bag)
+    (left′ right′ : List ℕ) (bags′ : List declared.Bag) : Type 0 where
   -- bags and free chain together have the nodes they had: by every weight they weigh what they did
-  pub nodes : (f : ℕ → ℕ) → weighNodes f left′ right′ bags′ + weighFree f left′ ≡ weighNodes f left right bags + weighFree f left
-  -- a node of neither keeps its left child (place 0 is no node)
+  pub nodes : (f : ℕ → ℕ) → weighNodes f left′ right′ bags′ + weighFree f left′
+      ≡ weighNodes f left right bags + weighFree f left
+  -- a node outside both keeps its left child (place 0 belongs to no node)
   pub kept-left : (x : ℕ) → 0 < x → uses x left right bags ≡ 0 → getD left′ x 0 ≡ getD left x 0
   -- and its right child
   pub kept-right : (x : ℕ) → uses x left right bags ≡ 0 → getD right′ x 0 ≡ getD right x 0
@@ -63,34 +66,39 @@ pub record Moved (left right : List ℕ) (bags : List declared.Bag) (left′ rig
   -- each bag afterwards, by itself
   pub formed : AllFormed bags′
 
--- insert
-pub record Inserted (left right values : List ℕ) (bag : declared.Bag) (value : ℕ) (left′ right′ values′ : List ℕ) (bag′ : declared.Bag) : Type 0 where
+-- insert: the multiset held "gains one by insert"
+pub record Inserted (left right values : List ℕ) (bag : declared.Bag) (value : ℕ)
+    (left′ right′ values′ : List ℕ) (bag′ : declared.Bag) : Type 0 where
   -- the first free node is taken off the chain
   pub free : freeNodes left ≡ getD left 0 0 ∷ freeNodes left′
   -- the bag of nodes gains it
   pub nodes : nodesOf left′ right′ bag′ ≡ bagInsert (getD left 0 0) (nodesOf left right bag)
   -- it gets the number
   pub stored : values′ ≡ set values (getD left 0 0) value
-  -- a node that is neither the bag's nor free keeps its number
+  -- a node outside the bag and the free chain keeps its number
   pub kept-value : (x : ℕ) → 0 < x → uses x left right (bag ∷ []) ≡ 0 → getD values′ x 0 ≡ getD values x 0
   -- the bag of numbers held gains the number
   pub held : heldBy left′ right′ values′ bag′ ≡ bagInsert value (heldBy left right values bag)
-  -- no node is lost, and no other is touched
+  -- bags and free chain together keep their nodes, and every other node is as it was
   pub moved : Moved left right (bag ∷ []) left′ right′ (bag′ ∷ [])
 
--- union
-pub record United (left right : List ℕ) (a b : declared.Bag) (left′ right′ : List ℕ) (bag′ : declared.Bag) : Type 0 where
+-- union: "The multiset held is conserved by union and split"
+pub record United (left right : List ℕ) (a b : declared.Bag)
+    (left′ right′ : List ℕ) (bag′ : declared.Bag) : Type 0 where
   -- the free chain is as it was
   pub free : freeNodes left′ ≡ freeNodes left
   -- the two bags of nodes become one
   pub nodes : nodesOf left′ right′ bag′ ≡ bagUnion (nodesOf left right a) (nodesOf left right b)
   -- and so do the bags of numbers held, whatever the numbers are
-  pub held : (values : List ℕ) → heldBy left′ right′ values bag′ ≡ bagUnion (heldBy left right values a) (heldBy left right values b)
-  -- no node is lost, and no other is touched; an empty bag may stand in the place of the second
+  pub held : (values : List ℕ) → heldBy left′ right′ values bag′
+      ≡ bagUnion (heldBy left right values a) (heldBy left right values b)
+  -- bags and free chain together keep their nodes, and every other node is as it was;
+  -- an empty bag may stand in the place of the second
   pub moved : Moved left right (a ∷ b ∷ []) left′ right′ (bag′ ∷ newBag ∷ [])
 
--- split
-pub record SplitInto (left right : List ℕ) (bag : declared.Bag) (left′ right′ : List ℕ) (first second : declared.Bag) : Type 0 where
+-- split: "The multiset held is conserved by union and split"
+pub record SplitInto (left right : List ℕ) (bag : declared.Bag)
+    (left′ right′ : List ℕ) (first second : declared.Bag) : Type 0 where
   -- the free chain is as it was
   pub free : freeNodes left′ ≡ freeNodes left
   -- the bag of nodes becomes two
@@ -99,11 +107,12 @@ pub record SplitInto (left right : List ℕ) (bag : declared.Bag) (left′ right
   -- and so does the bag of numbers held, whatever the numbers are
   pub held-first : (values : List ℕ) → heldBy left′ right′ values first ≡ splitFirst (heldBy left right values bag)
   pub held-second : (values : List ℕ) → heldBy left′ right′ values second ≡ splitSecond (heldBy left right values bag)
-  -- no node is lost, and no other is touched
+  -- bags and free chain together keep their nodes, and every other node is as it was
   pub moved : Moved left right (bag ∷ []) left′ right′ (first ∷ second ∷ [])
 
--- take
-pub record TakenFrom (left right values : List ℕ) (bag : declared.Bag) (left′ : List ℕ) (bag′ : declared.Bag) (value : ℕ) : Type 0 where
+-- take: "the root's number is taken and its node freed"
+pub record TakenFrom (left right values : List ℕ) (bag : declared.Bag)
+    (left′ : List ℕ) (bag′ : declared.Bag) (value : ℕ) : Type 0 where
   -- the node that is taken is then the first free one
   pub free : freeNodes left′ ≡ takenNumber (nodesOf left right bag) ∷ freeNodes left
   -- the bag of nodes is what take leaves
@@ -112,5 +121,5 @@ pub record TakenFrom (left right values : List ℕ) (bag : declared.Bag) (left�
   pub taken : value ≡ takenNumber (heldBy left right values bag)
   -- and of them is left what take leaves
   pub held : heldBy left′ right values bag′ ≡ takeRest (heldBy left right values bag)
-  -- no node is lost, and no other is touched
+  -- bags and free chain together keep their nodes, and every other node is as it was
   pub moved : Moved left right (bag ∷ []) left′ right (bag′ ∷ [])

@@ -1,4 +1,5 @@
--- What the inner steps of the crate hand to one another: no operation's contract cites them. A prime marks what stands there afterwards.
+-- What the inner steps of the crate hand to one another. Only their own contracts cite these.
+-- A prime marks what stands there afterwards.
 use Prim.Native.Nat.{ℕ, zero, suc, _+_, _≤_}
 use mathlib.Core.Path.{_≡_}
 use mathlib.Core.List.{List, [], _∷_, _++_, map}
@@ -10,7 +11,7 @@ use Rattle.pennant.specs.Held.{weighSlot, weigh, only, copies}
 use Rattle.bag.specs.Nodes.{pennantAt, slotNodes}
 use Rattle.bag.specs.Promises.{inPool}
 
--- the place of the first number that is not 0, counted from k, or past the end
+-- the place of the first number other than 0, counted from k; past the end where all are 0
 unfoldable pub firstFilled : ℕ → List ℕ → ℕ
 firstFilled k [] = k
 firstFilled k (zero ∷ xs) = firstFilled (suc k) xs
@@ -30,7 +31,7 @@ linkedRight (suc x) y left right = set right y (getD left (suc x) 0)
 abbrev pub usesAt : ℕ → List ℕ → List ℕ → ℕ → List ℕ → ℕ
 usesAt i left right k roots = sumOf (λ x. weighSlot (only i) (pennantAt left right k x)) roots
 
--- pennants of 2^k nodes that have no node twice, none past the list, and not 0
+-- pennants of 2^k nodes: each node stands in at most one place, and all of them are nodes of the pool
 pub record Pennants (left right : List ℕ) (k : ℕ) (roots : List ℕ) : Type 0 where
   -- right has a place for each node, too
   pub wide : length left ≤ length right
@@ -43,16 +44,18 @@ pub record Halved (left right : List ℕ) (k x : ℕ) (left′ : List ℕ) (half
   pub first : pennantAt left′ right k x ≡ pennantFirst (pennantAt left right (suc k) x)
   -- what is split off
   pub second : pennantAt left′ right k half ≡ pennantSecond (pennantAt left right (suc k) x)
-  -- a node that is not the pennant's is unchanged
+  -- a node outside the pennant keeps its left child
   pub kept : (i : ℕ) → usesAt i left right (suc k) (x ∷ []) ≡ 0 → getD left′ i 0 ≡ getD left i 0
 
 -- the full adder on the lists
 pub record Added (left right : List ℕ) (k x y z : ℕ) (left′ right′ : List ℕ) (slot carry : ℕ) : Type 0 where
   -- s of FA
-  pub sum : pennantAt left′ right′ k slot ≡ adderSum (pennantAt left right k x) (pennantAt left right k y) (pennantAt left right k z)
+  pub sum : pennantAt left′ right′ k slot
+      ≡ adderSum (pennantAt left right k x) (pennantAt left right k y) (pennantAt left right k z)
   -- c of FA
-  pub carried : pennantAt left′ right′ (suc k) carry ≡ adderCarry (pennantAt left right k x) (pennantAt left right k y) (pennantAt left right k z)
-  -- a node that is none of the three pennants' is unchanged
+  pub carried : pennantAt left′ right′ (suc k) carry
+      ≡ adderCarry (pennantAt left right k x) (pennantAt left right k y) (pennantAt left right k z)
+  -- a node outside the three pennants keeps its children
   pub kept-left : (i : ℕ) → usesAt i left right k (x ∷ y ∷ z ∷ []) ≡ 0 → getD left′ i 0 ≡ getD left i 0
   pub kept-right : (i : ℕ) → usesAt i left right k (x ∷ y ∷ z ∷ []) ≡ 0 → getD right′ i 0 ≡ getD right i 0
 
@@ -64,14 +67,14 @@ pub record Loose (left right slots : List ℕ) (x : ℕ) : Type 0 where
   pub wide : length left ≤ length right
   -- there is a node
   pub some : x ≡ 0 → ⊥
-  -- which is not the bag's; each node in at most one place
+  -- apart from the bag's nodes; each node stands in at most one place
   pub apart : (i : ℕ) → only i x + copies i (slotNodes left right slots) ≤ inPool (length left) i
 
 -- BAG-INSERT on the lists
 pub record Placed (left right slots : List ℕ) (x : ℕ) (left′ right′ slots′ : List ℕ) : Type 0 where
   -- the bag gains the node
   pub nodes : slotNodes left′ right′ slots′ ≡ bagInsert x (slotNodes left right slots)
-  -- a node that is neither it nor the bag's is unchanged
+  -- every other node keeps its children
   pub kept-left : (i : ℕ) → only i x + copies i (slotNodes left right slots) ≡ 0 → getD left′ i 0 ≡ getD left i 0
   pub kept-right : (i : ℕ) → only i x + copies i (slotNodes left right slots) ≡ 0 → getD right′ i 0 ≡ getD right i 0
 
@@ -81,12 +84,13 @@ pub record Shifted (left right slots left′ first second : List ℕ) : Type 0 w
   pub nodes-first : slotNodes left′ right first ≡ map pennantFirst (drop 1 (slotNodes left right slots)) ++ gap ∷ []
   -- one slot down, what is split off
   pub nodes-second : slotNodes left′ right second ≡ map pennantSecond (drop 1 (slotNodes left right slots)) ++ gap ∷ []
-  -- a node of no pennant past slot 0 is unchanged
+  -- a node outside the pennants past slot 0 keeps its left child
   pub kept : (i : ℕ) → weigh (only i) (drop 1 (slotNodes left right slots)) ≡ 0 → getD left′ i 0 ≡ getD left i 0
 
 -- the pennant of slot k spread over the slots below it
 pub record Spilled (left right slots : List ℕ) (k : ℕ) (left′ slots′ : List ℕ) : Type 0 where
   -- the halves fill the slots below, slot k is empty
-  pub nodes : slotNodes left′ right slots′ ≡ spread k (pennantAt left right k (getD slots k 0)) (gap ∷ drop (suc k) (slotNodes left right slots))
-  -- a node that is not the bag's is unchanged
+  pub nodes : slotNodes left′ right slots′
+      ≡ spread k (pennantAt left right k (getD slots k 0)) (gap ∷ drop (suc k) (slotNodes left right slots))
+  -- a node outside the bag keeps its left child
   pub kept : (i : ℕ) → copies i (slotNodes left right slots) ≡ 0 → getD left′ i 0 ≡ getD left i 0

@@ -1,4 +1,5 @@
--- The full adder's table as the code has it. That each of its rows is 000's is proofs/AddFacts.antt, `add-rows`.
+-- The full adder's table as the code has it: "The full adder has 8 rows; they are those of 000's table." That
+-- each of its rows is 000's is proved in proofs/AddFacts.antt, `add-rows`.
 use Prim.Native.Nat.{ℕ, zero, suc, _+_, _*_}
 use mathlib.Core.List.{List, [], _∷_}
 use lib.ListN.{getD}

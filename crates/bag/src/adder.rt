@@ -70,7 +70,7 @@ fn pick(row: usize, column: usize, x: u16, y: u16, z: u16) -> u16
     terms[entry(row, column)]
 }
 
-// PENNANT-UNION of x and y, nothing where x is 0.
+// PENNANT-UNION of x and y; the lists stay as they are where x is 0.
 fn link_some(x: u16, y: u16, left: &mut [u16], right: &mut [u16])
     requires { ⌜ x < length (now left) ⌝ }
     requires { ⌜ y < length (now right) ⌝ }
@@ -88,7 +88,11 @@ pub fn add(x: u16, y: u16, z: u16, left: &mut [u16], right: &mut [u16]) -> Sum
     requires { ⌜ y < length (now left) ⌝ }
     requires { ⌜ z < length (now left) ⌝ }
     requires { ⌜ length (now left) ≤ length (now right) ⌝ }
-    ensures { λ r. ⌜ ((k : ℕ) → Pennants (now (left .entry)) (now (right .entry)) k (x ∷ y ∷ z ∷ []) → Added (now (left .entry)) (now (right .entry)) k x y z (now (left .exit)) (now (right .exit)) (r .slot) (r .carry)) ⌝ }
+    ensures { λ r. ⌜
+        ((k : ℕ) → Pennants (now (left .entry)) (now (right .entry)) k (x ∷ y ∷ z ∷ [])
+        → Added (now (left .entry)) (now (right .entry)) k x y z
+        (now (left .exit)) (now (right .exit)) (r .slot) (r .carry))
+        ⌝ }
 {
     let row = row_of(x, y, z);
     let root = pick(row, 1, x, y, z);

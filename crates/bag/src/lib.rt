@@ -45,9 +45,12 @@ pub fn empty() -> Bag
     Bag { slots: [0u16; 16] }
 }
 
-// Whether the bag is empty. The loop has no exit, so that all slots are looked at at once.
+// Whether the bag is empty. The loop has no exit on the way, so that all slots are looked at together.
 pub fn is_empty(bag: Bag) -> bool
-    ensures { λ r. ⌜ ((left right values : List ℕ) → Pooled left right (bag ∷ []) → r ≡ isEmpty (heldBy left right values bag)) ⌝ }
+    ensures { λ r. ⌜
+        ((left right values : List ℕ) → Pooled left right (bag ∷ [])
+        → r ≡ isEmpty (heldBy left right values bag))
+        ⌝ }
 {
     let slots = bag.slots;
     let mut none = true;
@@ -64,7 +67,10 @@ pub fn is_empty(bag: Bag) -> bool
 // Whether the bag holds at least two numbers: a slot past slot 0 is filled. Two rows of eight slots
 // are looked at side by side, 1 to 8 and 8 to 15: a loop over 15 slots is compiled slot by slot.
 pub fn at_least_two(bag: Bag) -> bool
-    ensures { λ r. ⌜ ((left right values : List ℕ) → Pooled left right (bag ∷ []) → r ≡ atLeastTwo (heldBy left right values bag)) ⌝ }
+    ensures { λ r. ⌜
+        ((left right values : List ℕ) → Pooled left right (bag ∷ [])
+        → r ≡ atLeastTwo (heldBy left right values bag))
+        ⌝ }
 {
     let slots = bag.slots;
     let mut two = false;

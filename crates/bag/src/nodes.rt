@@ -1,5 +1,5 @@
-// Single nodes: linked to a pennant of twice the size, split off again, taken from
-// the free chain and given back.
+// Single nodes: linked to a pennant of twice the size, split off again, taken from the free chain and
+// given back.
 ghost use mathlib.Core.Path.{_≡_};
 ghost use mathlib.Core.List.{[], _∷_};
 ghost use Prim.Native.Nat.{ℕ, suc, _<_};
@@ -24,7 +24,10 @@ pub fn link(x: u16, y: u16, left: &mut [u16], right: &mut [u16])
 pub fn halve(x: u16, left: &mut [u16], right: &[u16]) -> u16
     requires { ⌜ x < length (now left) ⌝ }
     requires { ⌜ ((x ≡ 0 → ⊥) → getD (now left) x 0 < length (now right)) ⌝ }
-    ensures { λ r. ⌜ ((k : ℕ) → Pennants (now (left .entry)) (now (right .entry)) (suc k) (x ∷ []) → Halved (now (left .entry)) (now (right .entry)) k x (now (left .exit)) r) ⌝ }
+    ensures { λ r. ⌜
+        ((k : ℕ) → Pennants (now (left .entry)) (now (right .entry)) (suc k) (x ∷ [])
+        → Halved (now (left .entry)) (now (right .entry)) k x (now (left .exit)) r)
+        ⌝ }
 {
     if x == 0 {
         return 0;

@@ -1,5 +1,5 @@
-// The operations on bags. They may assume a well-formed pool with the bags they are given, and nothing
-// of who else uses the lists.
+// The operations on bags. They may assume a well-formed pool with the bags they are given; other bags
+// may stand in the same lists.
 ghost use mathlib.Core.Path.{_≡_};
 ghost use mathlib.Core.Bool.{false};
 ghost use mathlib.Core.List.{[], _∷_};
@@ -79,7 +79,8 @@ pub fn union(a: Bag, b: Bag, left: &mut [u16], right: &mut [u16]) -> Bag
 fn shift(bag: Bag, left: &mut [u16], right: &[u16]) -> Halves
     requires { ⌜ Pooled (now left) (now right) (bag ∷ []) ⌝ }
     ensures { λ r. ⌜
-        Shifted (now (left .entry)) (now (right .entry)) (bag .slots) (now (left .exit)) (r .first .slots) (r .second .slots)
+        Shifted (now (left .entry)) (now (right .entry)) (bag .slots)
+        (now (left .exit)) (r .first .slots) (r .second .slots)
         ⌝ }
 {
     let slots = bag.slots;
@@ -102,7 +103,8 @@ fn shift(bag: Bag, left: &mut [u16], right: &[u16]) -> Halves
 pub fn split(bag: Bag, left: &mut [u16], right: &mut [u16]) -> Halves
     requires { ⌜ Pooled (now left) (now right) (bag ∷ []) ⌝ }
     ensures { λ r. ⌜
-        SplitInto (now (left .entry)) (now (right .entry)) bag (now (left .exit)) (now (right .exit)) (r .first) (r .second)
+        SplitInto (now (left .entry)) (now (right .entry)) bag
+        (now (left .exit)) (now (right .exit)) (r .first) (r .second)
         ⌝ }
 {
     let slots = bag.slots;
@@ -125,7 +127,9 @@ fn spill(bag: Bag, from: usize, left: &mut [u16], right: &[u16]) -> Bag
     requires { ⌜ Pooled (now left) (now right) (bag ∷ []) ⌝ }
     requires { ⌜ from < 16 ⌝ }
     requires { ⌜ (getD (bag .slots) from 0 ≡ 0 → ⊥) ⌝ }
-    ensures { λ r. ⌜ Spilled (now (left .entry)) (now (right .entry)) (bag .slots) from (now (left .exit)) (r .slots) ⌝ }
+    ensures { λ r. ⌜
+        Spilled (now (left .entry)) (now (right .entry)) (bag .slots) from (now (left .exit)) (r .slots)
+        ⌝ }
 {
     let mut slots = bag.slots;
     let root = slots[from];
@@ -138,7 +142,7 @@ fn spill(bag: Bag, from: usize, left: &mut [u16], right: &[u16]) -> Bag
     Bag { slots }
 }
 
-// The lowest filled slot of a bag that isn't empty: the search needs no bound.
+// The lowest filled slot of a bag that has one: the loop needs no bound.
 fn lowest(bag: Bag) -> usize
     requires { ⌜ firstFilled 0 (bag .slots) < 16 ⌝ }
     ensures { λ r. ⌜ r ≡ firstFilled 0 (bag .slots) ⌝ }
@@ -157,7 +161,8 @@ pub fn take(bag: Bag, left: &mut [u16], right: &[u16], values: &[u16]) -> Taken
     requires { ⌜ length (now left) ≤ length (now values) ⌝ }
     requires { ⌜ isEmpty (heldBy (now left) (now right) (now values) bag) ≡ false ⌝ }
     ensures { λ r. ⌜
-        TakenFrom (now (left .entry)) (now (right .entry)) (now (values .entry)) bag (now (left .exit)) (r .bag) (r .value)
+        TakenFrom (now (left .entry)) (now (right .entry)) (now (values .entry)) bag
+        (now (left .exit)) (r .bag) (r .value)
         ⌝ }
 {
     let slots = bag.slots;

@@ -1,5 +1,6 @@
 // Four bags in one pool, and the operations on one or two of them. Each hands the bags back, and the
-// pool is well-formed with them again. An operation that may not be done is left undone.
+// pool is well-formed with them again. An operation whose condition fails leaves the bags
+// as they are.
 ghost use Prim.Native.Nat.{_<_, _≤_};
 ghost use mathlib.Core.Path.{_≡_};
 ghost use lib.ListN.{length};
@@ -26,7 +27,7 @@ pub fn start(left: &mut [u16], right: &[u16], nodes: usize) -> [Bag; 4]
     [none; 4]
 }
 
-// Inserts the number into bag i, unless no node is free.
+// Inserts the number into bag i, where a node is free.
 pub fn put(
     bags: [Bag; 4],
     i: usize,
@@ -89,7 +90,7 @@ pub fn unite(bags: [Bag; 4], i: usize, j: usize, left: &mut [u16], right: &mut [
     after
 }
 
-// Splits bag i, its second half into bag j, unless j holds something.
+// Splits bag i, its second half into bag j, where j is empty.
 pub fn divide(bags: [Bag; 4], i: usize, j: usize, left: &mut [u16], right: &mut [u16]) -> [Bag; 4]
     requires { ⌜ Pooled (now left) (now right) bags ⌝ }
     requires { ⌜ i < 4 ⌝ }

@@ -1,6 +1,6 @@
 // The test's own walk over the node lists. A bag's nodes become one list: slot after slot, and of a
 // slot its root first and then the tree below it, level by level. How deep a tree goes is said by
-// its slot and by nothing in the lists. Every place is guarded, so that a bag with faults is walked
+// its slot alone. Every place is guarded, so that a bag with faults is walked
 // to an end too.
 use bag::Bag;
 use testkit::words::at;

@@ -1,6 +1,6 @@
 // The C interface: reader, writer, search, checker and pages as functions that C can call, over
-// numbers and lists alone. Each has the contract of the call that it wraps, and no `requires`. A
-// record is no argument of C's, so the answers of reader and search go into a lent list.
+// numbers and lists alone: the answers of reader and search, which are records, go into a lent list.
+// Each has the contract of the call that it wraps, and no `requires`.
 ghost use mathlib.Core.Path.{_≡_};
 ghost use Prim.Native.Nat.{_<_};
 ghost use Rattle.graph.specs.Read.{outcomeOfRead, readExit};
@@ -74,7 +74,10 @@ pub extern "C" fn hopmap_read(
 // `writer::write`.
 #[no_mangle]
 pub extern "C" fn hopmap_write(offsets: &[u16], targets: &[u16], file: &mut [u8]) -> usize
-    ensures { λ r. ⌜ writeExit r (now (file .exit)) ≡ outcomeOfWrite (now (offsets .entry)) (now (targets .entry)) (now (file .entry)) ⌝ }
+    ensures { λ r. ⌜
+        writeExit r (now (file .exit))
+        ≡ outcomeOfWrite (now (offsets .entry)) (now (targets .entry)) (now (file .entry))
+        ⌝ }
 {
     writer::write(offsets, targets, file)
 }
@@ -175,7 +178,9 @@ pub extern "C" fn hopmap_page(
         (lentLists (now (offsets .entry)) (now (targets .entry)) (now (marks .entry)))
         (now (bytes .entry))
         ⌝ }
-    ensures { λ r. ⌜ OnPaper (now (file .entry)) source (now (distances .entry)) (now (parents .entry)) r (now (bytes .exit)) ⌝ }
+    ensures { λ r. ⌜
+        OnPaper (now (file .entry)) source (now (distances .entry)) (now (parents .entry)) r (now (bytes .exit))
+        ⌝ }
 {
     page::page(
         file,

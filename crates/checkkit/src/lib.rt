@@ -1,4 +1,4 @@
-// What the runs of the checker and of the pages share, and that needs neither: what is asked of a
+// What the runs of the checker and of the pages share, without a call of either: what is asked of a
 // call and what it must leave, drawn graphs, right and wrong results of them, and case A of document
 // 01 with faults.
 //

@@ -11,7 +11,7 @@ use testkit::sample::after;
 use testkit::words::at;
 use testkit::words::put;
 
-// No distance, no parent.
+// An unset distance or parent.
 pub const UNSET: u16 = 65535;
 
 // Kinds of results: right; real paths that need not be shortest; a second source; right for another

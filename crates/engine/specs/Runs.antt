@@ -1,4 +1,5 @@
--- What the run of a schedule takes for granted and promises. A prime marks what stands there afterwards. No outside contract cites these.
+-- What the run of a schedule takes for granted and promises. A prime marks what stands there afterwards.
+-- Only the contracts of inner steps cite these.
 use mathlib.Core.Path.{_≡_}
 use mathlib.Core.Bool.{cond}
 use mathlib.Core.List.{List, map}
@@ -13,8 +14,10 @@ use Rattle.opening.specs.Opening.{Sized}
 use Rattle.engine.specs.declared.Answer.{Answer}
 use Rattle.graph.specs.Steps.{GraphRows}
 
--- `run`: what it takes for granted
-pub record Runnable (source P : ℕ) (schedule offsets targets distances parents left right values : List ℕ) : Type 0 where
+-- what `run` takes for granted: the rows of a graph, an accepted call, "sheet 0 to 5,000,000 bytes", and lists
+-- that are as long as their needs
+pub record Runnable (source P : ℕ)
+    (schedule offsets targets distances parents left right values : List ℕ) : Type 0 where
   pub rows : GraphRows offsets targets (length distances)
   pub accepted : Accepted (rowsOf offsets targets) source P schedule
   pub few-events : length schedule ≤ maxEvents
@@ -24,7 +27,7 @@ pub record Runnable (source P : ℕ) (schedule offsets targets distances parents
 abbrev pub answerOf : ℕ → ℕ → ℕ → ℕ → Answer
 answerOf number used effective layer = record { number = number; used = used; effective = effective; layer = layer }
 
--- an answer that is the model's run's
+-- an answer that tells the model's run: "number, events used, effective events, d"
 pub record Told (r : Run) (answer : Answer) : Type 0 where
   pub number : answer .number ≡ cond (r .state .finished) success unfinished
   pub used : answer .used ≡ r .used

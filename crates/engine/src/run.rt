@@ -30,8 +30,8 @@ fn conclude(number: usize, used: usize, effective: usize, layer: u16) -> Answer
 }
 
 // Plays the schedule. `pending` counts what is left to do in the layer: the numbers in the input bags
-// and the workers that hold a vertex. `found` counts the numbers in the output bags. So a close is told
-// whether its condition is met, and whether the united bag is empty, without a look at a bag.
+// and the workers that hold a vertex. `found` counts the numbers in the output bags. So a close
+// knows by the two counts whether its condition is met and whether the united bag is empty.
 pub fn run(
     source: u16,
     workers: usize,
@@ -117,7 +117,7 @@ pub fn run(
             }
             Event::Close => {
                 if pending == 0 {
-                    // "d grows by 1", unless the search is finished; the close is effective either way.
+                    // "d grows by 1", or the search is finished; the close is effective either way.
                     let next = layer + 1;
                     let counted = effective + 1;
                     if found == 0 {

@@ -1,5 +1,5 @@
--- What the inner steps of reading take for granted of each other: a header that passed, then a scan that passed, then chains whose records are ranked;
--- and what they leave to the steps after them: the rows of a graph.
+-- What the inner steps of reading take for granted of each other: a header that passed, then a scan that
+-- passed, then chains whose records are ranked; and what they leave to the steps after them: the rows of a graph.
 use Prim.Native.Nat.{ℕ, _+_, _-_, _≤_, _<_}
 use mathlib.Core.Path.{_≡_}
 use mathlib.Core.Bool.{false, cond}
@@ -30,12 +30,12 @@ pub record Sized (file : List ℕ) (n m : ℕ) : Type 0 where
   pub fewEdges : m ≤ maxEdges
   pub bytes : length file ≡ fileLength n m
 
--- besides, no head, next or target is out of range
+-- besides, every head, next and target is in range
 pub record Scanned (file : List ℕ) (n m : ℕ) : Type 0 where
   pub sized : Sized file n m
   pub clean : first (scanRefusals file) ≡ success
 
--- besides, each record lies on exactly one chain, once
+-- besides, "Each record lies on exactly one chain, once."
 pub record Chained (file : List ℕ) (n m : ℕ) : Type 0 where
   pub scanned : Scanned file n m
   pub whole : first (chainRefusals file) ≡ success
@@ -44,14 +44,17 @@ pub record Chained (file : List ℕ) (n m : ℕ) : Type 0 where
 pub record Ranked (file marks : List ℕ) : Type 0 where
   pub ranks : (j : ℕ) → j < length (reached file) → getD marks (getD (reached file) j 0 - 1) 0 ≡ j + 1
 
--- what `unchain` answers and leaves: 5, 6 or 0; rows are written with 0 alone, and the first m marks are 0 in any case
-pub record Unchained (file : List ℕ) (m number : ℕ) (offsets₀ targets₀ marks₀ offsets targets marks : List ℕ) : Type 0 where
+-- what `unchain` answers and leaves: 5, 6 or 0; rows are written with 0 alone, and the first m marks are 0
+-- in any case
+pub record Unchained (file : List ℕ) (m number : ℕ)
+    (offsets₀ targets₀ marks₀ offsets targets marks : List ℕ) : Type 0 where
   pub judged : number ≡ first (chainRefusals file)
   pub starts : offsets ≡ cond (writesRows number) (overlay (offsetsOf (graphOf file)) offsets₀) offsets₀
   pub ends : targets ≡ cond (writesRows number) (overlay (targetsOf (graphOf file)) targets₀) targets₀
   pub cleared : marks ≡ overlay (replicate m 0) marks₀
 
--- offsets and targets of a graph of n vertices, `rowsOf offsets targets`, with no more vertices and edges than the sizes allow
+-- offsets and targets of a graph of n vertices, `rowsOf offsets targets`, within the sizes: "offsets (n + 1
+-- places, first 0, last m) and targets (m places)"
 pub record GraphRows (offsets targets : List ℕ) (n : ℕ) : Type 0 where
   pub starts : offsets ≡ offsetsOf (rowsOf offsets targets)
   pub ends : targets ≡ targetsOf (rowsOf offsets targets)

@@ -1,4 +1,5 @@
--- What `write` answers and leaves, for every offsets, targets and lent list of bytes. The order of refusals is `writeRefusals`.
+-- What `write` answers and leaves, for every offsets, targets and lent list of bytes.
+-- The order of refusals is `writeRefusals`.
 use Prim.Native.Nat.{ℕ, pred}
 use mathlib.Core.Bool.{Bool, cond, not, _||_}
 use mathlib.Core.List.{List, [], _∷_}
@@ -12,12 +13,12 @@ use Rattle.graph.specs.File.{fileLength}
 use Rattle.graph.specs.Read.{outsideSizes}
 use Rattle.graph.specs.Encode.{encode}
 
--- "n is the offsets length less one"
+-- "n is the offsets length less one" (§2.8)
 abbrev pub rowCount : List ℕ → ℕ
 rowCount offsets = pred (length offsets)
 
--- 11 of the writer: "n or m outside its size, offsets empty, falling, not 0 first or not m last, or a target of n or more, where n is
--- the offsets length less one and m the targets length"
+-- 11 of the writer: "n or m outside its size, offsets empty, falling, not 0 first or not m last, or a target
+-- of n or more, where n is the offsets length less one and m the targets length" (§2.8)
 unfoldable pub malformed : List ℕ → List ℕ → Bool
 malformed offsets targets =
     outsideSizes (rowCount offsets) (length targets)
@@ -27,7 +28,7 @@ malformed offsets targets =
     || not (eqb (getD offsets (rowCount offsets) 0) (length targets))
     || reaches (rowCount offsets) targets
 
--- "the writer: 11, 20"; "the writer's bytes as the file's length"
+-- "the writer: 11, 20"; "the writer's bytes as the file's length" (§10.2)
 unfoldable pub writeRefusals : List ℕ → List ℕ → List ℕ → List Refusal
 writeRefusals offsets targets file =
     malformed offsets targets gives badRows
@@ -47,13 +48,13 @@ pub record WriteOutcome : Type 0 where
 abbrev pub writeExit : ℕ → List ℕ → WriteOutcome
 writeExit number file = record { number = number; file = file }
 
--- the outcome with this number: no refusal changes a byte
+-- the outcome with this number: a refusal "changes nothing", "Places past the need keep their contents" (§2.9)
 unfoldable pub writeOutcomeBy : ℕ → List ℕ → List ℕ → List ℕ → WriteOutcome
 writeOutcomeBy number offsets targets file = record {
   number = number;
   file = cond (eqb number success) (overlay (encode (rowsOf offsets targets)) file) file;
 }
 
--- the outcome of `write`
+-- the outcome of `write` (§2.9)
 unfoldable pub outcomeOfWrite : List ℕ → List ℕ → List ℕ → WriteOutcome
 outcomeOfWrite offsets targets file = writeOutcomeBy (writeNumber offsets targets file) offsets targets file

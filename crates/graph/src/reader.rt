@@ -9,7 +9,10 @@ use crate::steps::unchain;
 
 // Reads the file into rows: offsets and targets. Marks is working room.
 pub fn read(file: &[u8], offsets: &mut [u16], targets: &mut [u16], marks: &mut [u16]) -> ReadAnswer
-    ensures { λ r. ⌜ readExit r (now (offsets .exit)) (now (targets .exit)) (now (marks .exit)) ≡ outcomeOfRead (now (file .entry)) (now (offsets .entry)) (now (targets .entry)) (now (marks .entry)) ⌝ }
+    ensures { λ r. ⌜
+        readExit r (now (offsets .exit)) (now (targets .exit)) (now (marks .exit))
+        ≡ outcomeOfRead (now (file .entry)) (now (offsets .entry)) (now (targets .entry)) (now (marks .entry))
+        ⌝ }
 {
     let answer = examine(file);
     let n = answer.vertices;

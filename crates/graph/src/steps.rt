@@ -111,8 +111,8 @@ pub fn rows_short(n: usize, m: usize, offsets: usize, targets: usize, marks: usi
     false
 }
 
-// 5, 6; only then rows are written. Marks are working room, clear before and after: what they hold at
-// entry does not matter.
+// 5, 6; only then rows are written. Marks are working room: the first m are cleared before and after,
+// whatever they hold at entry.
 pub fn unchain(
     file: &[u8],
     n: usize,
@@ -125,7 +125,11 @@ pub fn unchain(
     requires { ⌜ n + 1 ≤ length (now offsets) ⌝ }
     requires { ⌜ m ≤ length (now targets) ⌝ }
     requires { ⌜ m ≤ length (now marks) ⌝ }
-    ensures { λ r. ⌜ Unchained (now (file .entry)) m r (now (offsets .entry)) (now (targets .entry)) (now (marks .entry)) (now (offsets .exit)) (now (targets .exit)) (now (marks .exit)) ⌝ }
+    ensures { λ r. ⌜
+        Unchained (now (file .entry)) m r
+        (now (offsets .entry)) (now (targets .entry)) (now (marks .entry))
+        (now (offsets .exit)) (now (targets .exit)) (now (marks .exit))
+        ⌝ }
 {
     lists::clear(marks, m);
     let number = rank(file, n, m, marks);
@@ -137,7 +141,7 @@ pub fn unchain(
     number
 }
 
-// The next index of the record; of 0, which is none, the word before the first record.
+// The next index of the record; for 0, which is no record, the word before the first record.
 fn next_of(records: &[u8], index: usize) -> usize
     requires { ⌜ 4 * index + 3 < length (now records) ⌝ }
     ensures { λ r. ⌜ r ≡ File·word (now (records .entry)) (2 * index + 1) ⌝ }
@@ -145,7 +149,8 @@ fn next_of(records: &[u8], index: usize) -> usize
     word(records, 2 * index + 1)
 }
 
-// The vertex; of n, which is none, the last one. It is told by n alone, which the walk has at hand.
+// The vertex; for n, which is one past the last, the last one. Only n is needed to tell, which the walk
+// has at hand.
 fn or_last(vertex: usize, n: usize) -> usize
     requires { ⌜ 1 ≤ n ⌝ }
     requires { ⌜ vertex ≤ n ⌝ }
@@ -155,7 +160,7 @@ fn or_last(vertex: usize, n: usize) -> usize
     vertex - past
 }
 
-// The head of the vertex; of n, which is none, that of the last one.
+// The head of the vertex; for n, which is one past the last, that of the last one.
 fn head_of(file: &[u8], n: usize, vertex: usize) -> usize
     requires { ⌜ 1 ≤ n ⌝ }
     requires { ⌜ vertex ≤ n ⌝ }
@@ -170,7 +175,7 @@ fn head_of(file: &[u8], n: usize, vertex: usize) -> usize
 // the one before it; so that it leads straight to its words, `records` begins at word n, and record r
 // stands at its word 2 * r. The walk reads two indices ahead, `next` and `after`, so that a chain's end
 // is known early, and the next vertex's `head` and the two after it, while this chain is walked. What
-// is read behind a chain's end or the last vertex is not used: so reading ahead takes no branch.
+// is read behind a chain's end or the last vertex is thrown away, so reading ahead takes no branch.
 fn rank(file: &[u8], n: usize, m: usize, marks: &mut [u16]) -> usize
     requires { ⌜ Scanned (now file) n m ⌝ }
     requires { ⌜ m ≤ length (now marks) ⌝ }

@@ -6,6 +6,7 @@ ghost use Rattle.lists.specs.Lists.{largest};
 ghost use Rattle.graph.specs.File.{wordsAt};
 ghost use Rattle.graph.specs.File.{word as File·word};
 
+// A byte, as wide as a word.
 fn wide(byte: u8) -> u16
     ensures { λ r. ⌜ r ≡ byte ⌝ }
     ensures { λ r. ⌜ r < 256 ⌝ }
@@ -50,8 +51,8 @@ pub fn larger(x: u16, y: u16) -> u16
     x
 }
 
-// The largest of the `count` words from `place` on, 0 of none. No exit on the way: so the loop is
-// compiled to steps over several words at a time.
+// The largest of the `count` words from `place` on; 0 where there are none. The loop has no exit on
+// the way, so it is compiled to steps over several words at a time.
 pub fn largest_word(file: &[u8], place: usize, count: usize) -> u16
     requires { ⌜ 2 * (place + count) ≤ length (now file) ⌝ }
     ensures { λ r. ⌜ r ≡ largest (wordsAt (now (file .entry)) place 1 count) ⌝ }

@@ -1,5 +1,5 @@
-// The program: `report::respond_in` between standard input and standard output. How long its
-// buffers are is the library's to say.
+// The program: `report::respond_in` between standard input and standard output. The library says how
+// long the two buffers are.
 use libc::STDIN_FILENO;
 use libc::STDOUT_FILENO;
 

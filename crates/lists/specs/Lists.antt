@@ -1,5 +1,6 @@
--- Lists: one laid over another, consecutive numbers, running sums, the largest number, sums of a weight, values counted as 0 or 1, chains, pieces of a list, and tests
--- that compute. No vertex, edge, byte or node here.
+-- Lists: one laid over another, consecutive numbers, running sums, the largest number, sums of a weight,
+-- values counted as 0 or 1, chains, pieces of a list, and tests that compute. Nothing here is about vertices,
+-- edges, bytes or nodes: several crates' definitions are made of these.
 use Prim.Native.Nat.{ℕ, zero, suc, _+_, max}
 use mathlib.Core.Bool.{Bool, false, not, _||_}
 use mathlib.Core.List.{List, [], _∷_, _++_}
@@ -7,7 +8,7 @@ use mathlib.Core.Option.{Option, none, some}
 use lib.Dec.{leb, ltb, eqb}
 use lib.ListN.{length, take, drop}
 
--- `new`, and then the rest of `old`: "Places past the need keep their contents."
+-- `new`, and then the rest of `old`: "Places past the need keep their contents." (§1.5)
 unfoldable pub overlay : List ℕ → List ℕ → List ℕ
 overlay new old = new ++ drop (length new) old
 
@@ -16,7 +17,7 @@ unfoldable pub numbersFrom : ℕ → ℕ → List ℕ
 numbersFrom a zero = []
 numbersFrom a (suc count) = a ∷ numbersFrom (suc a) count
 
--- a, a + x, a + x + y, ..: the running sums of a list, from a on, one more than the list has places
+-- a, a + x, a + x + y, ..: the running sums of a list, from a on, one more than the list has places (§2.5)
 unfoldable pub sumsFrom : ℕ → List ℕ → List ℕ
 sumsFrom a [] = a ∷ []
 sumsFrom a (x ∷ xs) = a ∷ sumsFrom (a + x) xs
@@ -41,7 +42,7 @@ unfoldable pub reaches : ℕ → List ℕ → Bool
 reaches limit [] = false
 reaches limit (x ∷ xs) = leb limit x || reaches limit xs
 
--- the largest number of the list, 0 of none
+-- the largest number of the list, 0 where the list is empty
 unfoldable pub largest : List ℕ → ℕ
 largest [] = 0
 largest (x ∷ xs) = max x (largest xs)
@@ -66,7 +67,7 @@ abbrev pub someOne : {A : Type 0} → Option A → ℕ
 someOne none = 0
 someOne (some x) = 1
 
--- "zero ends the chain": x, what is next after it, and so on, at most so many
+-- "zero ends the chain": x, what is next after it, and so on, at most `steps` numbers (§2.3)
 unfoldable pub chainFrom : (ℕ → ℕ) → ℕ → ℕ → List ℕ
 chainFrom next zero x = []
 chainFrom next (suc steps) zero = []
@@ -78,6 +79,6 @@ chunksIn size zero l = []
 chunksIn size (suc count) [] = []
 chunksIn size (suc count) (x ∷ l) = take size (x ∷ l) ∷ chunksIn size count (drop size (x ∷ l))
 
--- all pieces: there are no more of them than places
+-- all pieces: at most as many as the list has places (§9.2)
 unfoldable pub chunks : {A : Type 0} → ℕ → List A → List (List A)
 chunks size l = chunksIn size (length l) l

@@ -8,12 +8,14 @@ use Rattle.pennant.specs.Bag.{splitFirst, splitSecond}
 use Rattle.pennant.specs.Held.{size, upTo}
 use Rattle.model.specs.Call.{Lent, Outcome, outcomeOfSearch}
 
--- a search of a file given by its words, with distances and parents of so many places; or a split of a bag of so many numbers
+-- a search of a file given by its words, with distances and parents of so many places;
+-- or a split of a bag of so many numbers
 pub data Case : Type 0 where
   searching : (words : List ℕ) (source P : ℕ) (schedule : List ℕ) (places : ℕ) → Case
   splitting : (elements : ℕ) → Case
 
--- line one of the output, then distances and parents as the lists hold them; or the sizes of the bags that a split leaves and gives
+-- line one of the output, then distances and parents as the lists hold them;
+-- or the sizes of the bags that a split leaves and gives
 pub data Expected : Type 0 where
   answers : (number used effective layer : ℕ) (distances parents : List ℕ) → Expected
   sizes : (first second : ℕ) → Expected
@@ -22,20 +24,34 @@ pub data Expected : Type 0 where
 unfoldable pub lentFor : ℕ → Lent
 lentFor places =
     let nine : List ℕ = replicate 9 7 in
-    record { offsets = nine; targets = nine; marks = nine; distances = replicate places 7; parents = replicate places 7; left = nine; right = nine; values = nine }
+    record {
+      offsets = nine;
+      targets = nine;
+      marks = nine;
+      distances = replicate places 7;
+      parents = replicate places 7;
+      left = nine;
+      right = nine;
+      values = nine;
+    }
 
 -- what a search answers, and the distances and parents at exit
 unfoldable pub answersOf : Outcome → Expected
-answersOf o = answers (o .answer .number) (o .answer .used) (o .answer .effective) (o .answer .layer) (o .lent .distances) (o .lent .parents)
+answersOf o =
+    answers (o .answer .number) (o .answer .used) (o .answer .effective) (o .answer .layer)
+    (o .lent .distances) (o .lent .parents)
 
 -- the outcome of a case
 unfoldable pub outcomeOfCase : Case → Expected
-outcomeOfCase (searching words source P schedule places) = answersOf (outcomeOfSearch (bytesOf words) source P schedule (lentFor places))
+outcomeOfCase (searching words source P schedule places) =
+    answersOf (outcomeOfSearch (bytesOf words) source P schedule (lentFor places))
 outcomeOfCase (splitting elements) = sizes (size (splitFirst (upTo elements))) (size (splitSecond (upTo elements)))
 
--- A: "Sheet: 0 nine times, 192, 72, 0, 8, 0, 8, 0, 8," and then events 18 and 19, "0, 8, 192, 0, 0, 192"
+-- A: "Sheet: 0 nine times, 192, 72, 0, 8, 0, 8, 0, 8," and then events 18 and 19, "0, 8, 192, 0, 0, 192" (§14.1)
 abbrev pub scheduleA : ℕ → ℕ → List ℕ
-scheduleA event18 event19 = replicate 9 0 ++ 192 ∷ 72 ∷ 0 ∷ 8 ∷ 0 ∷ 8 ∷ 0 ∷ 8 ∷ event18 ∷ event19 ∷ 0 ∷ 8 ∷ 192 ∷ 0 ∷ 0 ∷ 192 ∷ []
+scheduleA event18 event19 =
+    replicate 9 0
+    ++ 192 ∷ 72 ∷ 0 ∷ 8 ∷ 0 ∷ 8 ∷ 0 ∷ 8 ∷ event18 ∷ event19 ∷ 0 ∷ 8 ∷ 192 ∷ 0 ∷ 0 ∷ 192 ∷ []
 
 -- C: "sheet 0, 192". "What E to I leave unsaid is as in C."
 abbrev pub scheduleC : List ℕ
@@ -45,7 +61,7 @@ scheduleC = 0 ∷ 192 ∷ []
 abbrev pub refused : ℕ → Expected
 refused number = answers number 0 0 0 (7 ∷ []) (7 ∷ [])
 
--- the table: A, B, C and D; then E to I; then J
+-- the table: A, B, C and D; then E to I; then J (§14.2)
 unfoldable pub benchTable : List (Case × Expected)
 benchTable =
     (searching wordsA 0 2 (scheduleA 8 0) 4, answers 0 25 25 2 (0 ∷ 1 ∷ 1 ∷ 2 ∷ []) (0 ∷ 0 ∷ 0 ∷ 1 ∷ []))

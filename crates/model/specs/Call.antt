@@ -1,5 +1,5 @@
--- The whole call: what a search answers and what every lent list holds at exit, for every file, source, P, schedule and list. The order of
--- refusals is `searchRefusals`.
+-- The whole call: what a search answers and what every lent list holds at exit, for every file, source, P,
+-- schedule and list. The order of refusals is `searchRefusals`.
 use mathlib.Core.Bool.{Bool, cond, not, _||_}
 use mathlib.Core.List.{List, [], _∷_, _++_, map}
 use Prim.Native.Nat.{ℕ, _+_, _*_}
@@ -26,14 +26,14 @@ pub record Lent : Type 0 where
   pub right : List ℕ
   pub values : List ℕ
 
--- "The run's answer: number, events used, effective events, d."
+-- "The run's answer: number, events used, effective events, d." (§6.10)
 pub record Answer : Type 0 where
   pub number : ℕ
   pub used : ℕ
   pub effective : ℕ
   pub layer : ℕ
 
--- "three node lists P × n + 1 each"
+-- "three node lists P × n + 1 each" (§10.3)
 abbrev pub nodePlaces : ℕ → ℕ → ℕ
 nodePlaces n P = P * n + 1
 
@@ -48,7 +48,7 @@ pub record Lengths : Type 0 where
   pub right : ℕ
   pub values : ℕ
 
--- of these lists
+-- the lengths of these lists
 abbrev pub lengthsOf : Lent → Lengths
 lengthsOf lent = record {
   offsets = length (lent .offsets);
@@ -61,7 +61,8 @@ lengthsOf lent = record {
   values = length (lent .values);
 }
 
--- "20: a lent list is shorter than its need": "offsets n + 1, targets and marks m, distances and parents n, three node lists P × n + 1 each"
+-- "20: a lent list is shorter than its need": "offsets n + 1, targets and marks m, distances and parents n,
+-- three node lists P × n + 1 each" (§10.3)
 unfoldable pub lengthsShort : ℕ → ℕ → ℕ → Lengths → Bool
 lengthsShort n m P lengths =
     rowsShort n m (lengths .offsets) (lengths .targets) (lengths .marks)
@@ -75,7 +76,7 @@ lengthsShort n m P lengths =
 unfoldable pub runOf : List ℕ → ℕ → ℕ → List ℕ → Run
 runOf file source P schedule = play (graphOf file) source P schedule
 
--- "Order: 1 (under 4), 2, 1 (length), 4, 3, 7, 8, 9, 20": what is judged before a list is written
+-- "Order: 1 (under 4), 2, 1 (length), 4, 3, 7, 8, 9, 20": what is judged before a list is written (§10.2)
 unfoldable pub earlyRefusals : List ℕ → ℕ → ℕ → List ℕ → Lengths → List Refusal
 earlyRefusals file source P schedule lengths =
     headerRefusals file
@@ -84,11 +85,11 @@ earlyRefusals file source P schedule lengths =
     ++ scheduleRefusals schedule P
     ++ (lengthsShort (vertexCount file) (edgeCount file) P lengths gives shortList ∷ [])
 
--- ".. 5, 6", all of it before the schedule is played
+-- ".. 5, 6", all of it before the schedule is played (§10.2)
 unfoldable pub inputRefusals : List ℕ → ℕ → ℕ → List ℕ → Lent → List Refusal
 inputRefusals file source P schedule lent = earlyRefusals file source P schedule (lengthsOf lent) ++ chainRefusals file
 
--- "then .. 21"
+-- "then .. 21" (§10.2)
 unfoldable pub searchRefusals : List ℕ → ℕ → ℕ → List ℕ → Lent → List Refusal
 searchRefusals file source P schedule lent =
     inputRefusals file source P schedule lent
@@ -102,19 +103,20 @@ searchNumber file source P schedule lent = first (searchRefusals file source P s
 unfoldable pub plays : ℕ → Bool
 plays number = elem number (success ∷ unfinished ∷ [])
 
--- "A refusal other than 21 gives zeros beside its number."
+-- "A refusal other than 21 gives zeros beside its number." (§10.5)
 unfoldable pub answerBy : ℕ → Run → Answer
 answerBy number r = cond (plays number)
     (record { number = number; used = r .used; effective = r .effective; layer = r .state .layer })
     (record { number = number; used = 0; effective = 0; layer = 0 })
 
--- "with 5 and 6 the first m marks become 0. Every call that gets past 6 leaves the first m marks 0"
+-- "with 5 and 6 the first m marks become 0. Every call that gets past 6 leaves the first m marks 0" (§10.4)
 unfoldable pub sweepsMarks : ℕ → Bool
 sweepsMarks number = plays number || clearsMarks number
 
--- the lists at exit: "A refusal .. other than 10 and 21 changes nothing, but with 5 and 6 the first m marks become 0. Every call that gets past 6 ..
--- writes rows. A run also leaves the first P × n + 1 places of each node list 0, with 0 and 21 alike. On 21 distances and parents are those
--- written so far. .. Places past the need keep their contents."
+-- the lists at exit: "A refusal .. other than 10 and 21 changes nothing, but with 5 and 6 the first m marks
+-- become 0. Every call that gets past 6 .. writes rows. A run also leaves the first P × n + 1 places of each node
+-- list 0, with 0 and 21 alike. On 21 distances and parents are those written so far. .. Places past the need keep
+-- their contents." (§10.4)
 unfoldable pub lentAfter : ℕ → Run → List ℕ → ℕ → Lent → Lent
 lentAfter number r file P lent =
     let g = graphOf file in
@@ -136,7 +138,7 @@ pub record Outcome : Type 0 where
   pub answer : Answer
   pub lent : Lent
 
--- the outcome of a search
+-- the outcome of a search (§6.10)
 unfoldable pub outcomeOfSearch : List ℕ → ℕ → ℕ → List ℕ → Lent → Outcome
 outcomeOfSearch file source P schedule lent = record {
   answer = answerBy (searchNumber file source P schedule lent) (runOf file source P schedule);

@@ -1,4 +1,5 @@
--- Distances of a graph, the event table and its play, the link-by-link run, the whole call's outcome, and what demand 3 claims.
+-- Distances of a graph, the event table and its play, the link-by-link run, the whole call's outcome, and what
+-- demand 3 claims. Read in this order.
 pub mod Paths
 pub mod Words
 pub mod State

@@ -18,15 +18,16 @@ pub record Run : Type 0 where
   pub effective : ℕ
 
 -- "The effective events reported are the number of used bytes whose condition, by that table, was met at their turn."
+-- (§6.9)
 unfoldable pub tally : Run → Option State → Run
 tally r none = record { state = r .state; used = suc (r .used); effective = r .effective }
 tally r (some s) = record { state = s; used = suc (r .used); effective = suc (r .effective) }
 
--- one byte: "up to the finishing event"; after it nothing is used
+-- one byte: "up to the finishing event"; after it nothing is used (§6.9)
 unfoldable pub step : Graph → Run → ℕ → Run
 step g r byte = cond (r .state .finished) r (tally r (act g (r .state) (eventOf byte)))
 
--- "each event gets the state that the one before it left"
+-- "each event gets the state that the one before it left" (§6.9)
 unfoldable pub playFrom : Graph → Run → List ℕ → Run
 playFrom g r schedule = foldl (step g) r schedule
 
@@ -34,7 +35,7 @@ playFrom g r schedule = foldl (step g) r schedule
 abbrev pub openingRun : Graph → ℕ → ℕ → Run
 openingRun g source P = record { state = openingState (length g) source P; used = 0; effective = 0 }
 
--- "The list is played from the opening state"
+-- "The list is played from the opening state" (§6.9)
 unfoldable pub play : Graph → ℕ → ℕ → List ℕ → Run
 play g source P schedule = playFrom g (openingRun g source P) schedule
 
@@ -42,11 +43,11 @@ play g source P schedule = playFrom g (openingRun g source P) schedule
 unfoldable pub stateAt : Graph → ℕ → ℕ → List ℕ → ℕ → State
 stateAt g source P schedule k = play g source P (take k schedule) .state
 
--- 1 where the condition of byte k is met at its turn
+-- 1 where the condition of byte k is met at its turn (§6.9)
 unfoldable pub metAt : Graph → ℕ → ℕ → List ℕ → ℕ → ℕ
 metAt g source P schedule k = someOne (act g (stateAt g source P schedule k) (eventOf (getD schedule k 0)))
 
--- "A full round is work by 0 to P - 1, then close, in adjacent bytes."
+-- "A full round is work by 0 to P - 1, then close, in adjacent bytes." (§5.4)
 unfoldable pub roundBytes : ℕ → List ℕ
 roundBytes P = map (λ (w : ℕ). 8 * w) (numbersFrom 0 P) ++ 192 ∷ []
 
@@ -56,11 +57,11 @@ startsWith [] bytes = true
 startsWith (x ∷ xs) [] = false
 startsWith (x ∷ xs) (y ∷ ys) = eqb x y && startsWith xs ys
 
--- the number of places at which a full round stands, whatever stands between
+-- the number of places at which a full round stands, whatever stands between (§5.4)
 unfoldable pub rounds : ℕ → List ℕ → ℕ
 rounds P [] = 0
 rounds P (byte ∷ bytes) = cond (startsWith (roundBytes P) (byte ∷ bytes)) 1 0 + rounds P bytes
 
--- "Their count is at most P × (6 × n + m) + n."
+-- "Their count is at most P × (6 × n + m) + n." (§7.4)
 unfoldable pub eventBound : Graph → ℕ → ℕ
 eventBound g P = P * (6 * length g + length (targetsOf g)) + length g

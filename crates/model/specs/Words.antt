@@ -8,12 +8,12 @@ use lib.ListN.{take}
 use Rattle.numbers.specs.Numbers.{unset}
 use Rattle.model.specs.Paths.{Labels}
 
--- the word of a label: "65,535 means unset"
+-- the word of a label: "65,535 means unset" (§1.4)
 unfoldable pub wordOf : Option ℕ → ℕ
 wordOf none = unset
 wordOf (some x) = x
 
--- the label of a word: "65,535 means unset, in distances and parents only"
+-- the label of a word: "65,535 means unset, in distances and parents only" (§1.4)
 unfoldable pub optionOf : ℕ → Option ℕ
 optionOf word = cond (eqb word unset) none (some word)
 
@@ -21,6 +21,6 @@ optionOf word = cond (eqb word unset) none (some word)
 unfoldable pub labelsOf : List ℕ → List ℕ → Labels
 labelsOf distances parents = record { distances = map optionOf distances; parents = map optionOf parents }
 
--- the labels in the first n places of two lists
+-- the labels in the first n places of two lists (§8.2)
 unfoldable pub labelsIn : ℕ → List ℕ → List ℕ → Labels
 labelsIn n distances parents = labelsOf (take n distances) (take n parents)

@@ -9,7 +9,7 @@ infix 75 _gives_
 pub data Refusal : Type 0 where
   _gives_ : Bool → ℕ → Refusal
 
--- the number of the first test that holds; 0 where none does
+-- the number of the first test that holds; 0 where none does (§10.2)
 unfoldable pub first : List Refusal → ℕ
 first [] = success
 first (test gives number ∷ rest) = cond test number (first rest)

@@ -13,7 +13,7 @@ pub const MAX_EVENTS: usize = 5000000;
 // An unset distance or parent, in 16-bit lists.
 pub const UNSET: u16 = 65535;
 
-// The same among words made wide.
+// The same as a `usize`, for words that were made wide.
 pub const WIDE_UNSET: usize = UNSET as usize;
 
 // "Turned down by the input"; 0 is success.

@@ -1,2 +1,2 @@
--- The opening of a search.
+-- The opening of a search: what stands in the lists before the first event.
 pub mod Opening

@@ -1,4 +1,5 @@
--- What the opening takes for granted and promises. A prime marks what stands there afterwards. No outside contract cites these.
+-- What the opening takes for granted and promises: "The source starts with distance 0, itself as parent, alone in
+-- worker 0's input bag". A prime marks what stands there afterwards. Only the contracts of inner steps cite these.
 use mathlib.Core.Path.{_≡_}
 use mathlib.Core.List.{List, [], _∷_}
 use Prim.Native.Nat.{ℕ, _+_, _*_, _≤_}
@@ -13,7 +14,8 @@ use Rattle.model.specs.State.{openingLabels}
 use Rattle.model.specs.Call.{nodePlaces}
 use Rattle.model.specs.Words.{labelsOf}
 
--- as many parents as distances, no more than n may be, and node lists for P workers, left of exactly its need
+-- as many parents as distances, at most as many as n may be; P within its size; node lists for P workers, left
+-- exactly at its need
 pub record Sized (P : ℕ) (distances parents left right values : List ℕ) : Type 0 where
   pub few-vertices : length distances ≤ maxVertices
   pub some-worker : 1 ≤ P
@@ -24,7 +26,8 @@ pub record Sized (P : ℕ) (distances parents left right values : List ℕ) : Ty
   pub numbered : length left ≤ length values
 
 -- `open`: the opening labels, and the source alone in the bag, all other nodes free
-pub record FirstLayer (P source : ℕ) (distances distances′ parents′ left′ right′ values′ : List ℕ) (bag : declared.Bag) : Type 0 where
+pub record FirstLayer (P source : ℕ)
+    (distances distances′ parents′ left′ right′ values′ : List ℕ) (bag : declared.Bag) : Type 0 where
   pub labels : labelsOf distances′ parents′ ≡ openingLabels (length distances) source
   pub held : heldBy left′ right′ values′ bag ≡ bagInsert source emptyBag
   pub pool : Pooled left′ right′ (bag ∷ [])

@@ -1,5 +1,5 @@
-// The opening of a search: the labels of the source alone, a new pool of nodes, and the source in a bag.
-// `open` is an inner step: it requires lists of their needs.
+// The opening of a search: the labels of the source alone, a new pool of nodes, and the source in a
+// bag. `open` is an inner step: it requires lists that are as long as their needs.
 ghost use mathlib.Core.Path.{_≡_};
 ghost use Prim.Native.Nat.{_<_};
 ghost use lib.ListN.{length, set, replicate};

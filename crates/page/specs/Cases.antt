@@ -3,10 +3,11 @@ use mathlib.Core.List.{List, [], _∷_, _++_}
 use Prim.Native.Nat.{ℕ}
 use lib.ListN.{replicate}
 
--- A's distances and parents
+-- A's distances, as its output has them
 abbrev pub distancesA : List ℕ
 distancesA = 0 ∷ 1 ∷ 1 ∷ 2 ∷ []
 
+-- A's parents
 abbrev pub parentsA : List ℕ
 parentsA = 0 ∷ 0 ∷ 0 ∷ 1 ∷ []
 

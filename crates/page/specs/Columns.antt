@@ -33,7 +33,8 @@ pub record PageLists : Type 0 where
   pub distances : List ℕ
   pub parents : List ℕ
 
--- what stands in the columns of pages, each a list of lines: line one, "columns 11 to 20"; then "1 to 5", "7 to 13", "15 to 20"
+-- what stands in the columns of pages, each a list of lines: line one, "columns 11 to 20"; then "1 to 5",
+-- "7 to 13", "15 to 20" (§9.4)
 unfoldable pub linesRead : List (List (List ℕ)) → PageLists
 linesRead pages =
     let lines = flatten (map (drop 1) pages) in
@@ -44,11 +45,11 @@ linesRead pages =
       parents = map (λ (line : List ℕ). labelRead (columns 15 20 line)) lines;
     }
 
--- "reading the columns back": the same from the bytes, by lines of 21 bytes and pages of 51 lines
+-- "reading the columns back": the same from the bytes, by lines of 21 bytes and pages of 51 lines (§9.4)
 unfoldable pub readPages : List ℕ → PageLists
 readPages bytes = linesRead (chunks (suc pageVertices) (chunks lineBytes bytes))
 
--- ".. gives the lists": pages 1, 2, .., vertices 0, 1, .., and the first n places of distances and parents
+-- ".. gives the lists": pages 1, 2, .., vertices 0, 1, .., and the first n places of distances and parents (§9.4)
 unfoldable pub listsOnPages : ℕ → List ℕ → List ℕ → PageLists
 listsOnPages n distances parents = record {
   numbers = numbersFrom 1 (pageCount n);

@@ -1,4 +1,5 @@
--- The page for the folder: its layout to the byte, how its columns are read back, and what a call answers and leaves. Read in this order.
+-- The page for the folder: its layout to the byte, how its columns are read back, and what a call answers and
+-- leaves. Read in this order.
 pub mod Layout
 pub mod Columns
 pub mod Page

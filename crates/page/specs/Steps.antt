@@ -1,4 +1,4 @@
--- What the steps of printing the pages promise. No outside contract cites these.
+-- What the steps of printing the pages promise. Only the contracts of inner steps cite these.
 use mathlib.Core.Bool.{cond}
 use mathlib.Core.List.{List, [], _++_}
 use Prim.Native.Nat.{ℕ, _+_, _/_, _%_}
@@ -7,4 +7,6 @@ use Rattle.page.specs.Layout.{pageVertices, headLine, vertexLine}
 
 -- a vertex's line, with the page's line one before it where the vertex is the first of a page
 unfoldable pub entryText : ℕ → ℕ → ℕ → List ℕ
-entryText v distance parent = cond (eqb (v % pageVertices) 0) (headLine (v / pageVertices + 1)) [] ++ vertexLine v distance parent
+entryText v distance parent =
+    cond (eqb (v % pageVertices) 0) (headLine (v / pageVertices + 1)) []
+    ++ vertexLine v distance parent

@@ -26,7 +26,9 @@ pub fn page(
         (lentLists (now (offsets .entry)) (now (targets .entry)) (now (marks .entry)))
         (now (bytes .entry))
         ⌝ }
-    ensures { λ r. ⌜ OnPaper (now (file .entry)) source (now (distances .entry)) (now (parents .entry)) r (now (bytes .exit)) ⌝ }
+    ensures { λ r. ⌜
+        OnPaper (now (file .entry)) source (now (distances .entry)) (now (parents .entry)) r (now (bytes .exit))
+        ⌝ }
 {
     let checked = check(file, source, distances, parents, offsets, targets, marks);
     if checked != numbers::SUCCESS {

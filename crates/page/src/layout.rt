@@ -79,7 +79,8 @@ pub fn put_pages(output: &mut [u8], n: usize, distances: &[u16], parents: &[u16]
     requires { ⌜ pageNeed n ≤ length (now output) ⌝ }
     ensures { λ r. ⌜ r ≡ pageNeed n ⌝ }
     ensures { λ r. ⌜
-        Prints (pageText n (now (distances .entry)) (now (parents .entry))) (now (output .entry)) 0 (now (output .exit)) r
+        Prints (pageText n (now (distances .entry)) (now (parents .entry)))
+        (now (output .entry)) 0 (now (output .exit)) r
         ⌝ }
 {
     let mut next = 0;

@@ -1,4 +1,5 @@
--- Document 01's case A as the page program meets it: its file with the distances and parents of its result; and the same with one parent wrong.
+-- Document 01's case A as the page program meets it: its file with the distances and parents of its result; and
+-- the same with one parent wrong.
 use mathlib.Core.List.{List, [], _∷_, _++_}
 use Prim.Native.Nat.{ℕ}
 use lib.ListN.{length}

@@ -16,22 +16,23 @@ use Rattle.page_report.specs.Input.{sourceIn, distancesIn, parentsIn, fi
 abbrev pub outputPlaces : ℕ
 outputPlaces = pageNeed maxVertices
 
--- the program's order: its own, then the page's, with the program's lists and room for any pages
+-- the program's order: its own, then the page's, with the program's lists and room for any pages (§12.3)
 unfoldable pub respondRefusals : List ℕ → List Refusal
 respondRefusals input =
     ownRefusals input
     ++ pageRefusals (fileIn input) (sourceIn input) (distancesIn input) (parentsIn input) programLists outputPlaces
 
--- a refusal is a line with its number (docs/DECISIONS.md, 80)
+-- a refusal is a line with its number (docs/DECISIONS.md, 80) (§12.4)
 unfoldable pub numberLine : ℕ → List ℕ
 numberLine number = decimal number ++ (lineFeed ∷ [])
 
--- the program's output: the pages and nothing else, or the line of a refusal
+-- the program's output: the pages and nothing else, or the line of a refusal (§12.4)
 unfoldable pub response : List ℕ → List ℕ
 response input =
     let number = first (respondRefusals input) in
-    cond (eqb number success) (pageText (vertexCount (fileIn input)) (distancesIn input) (parentsIn input)) (numberLine number)
+    cond (eqb number success) (pageText (vertexCount (fileIn input)) (distancesIn input) (parentsIn input))
+    (numberLine number)
 
--- the outcome of a call: a list that is too short for some output is left as it was, and nothing counts as written
+-- the outcome of a call: a list of fewer than `outputPlaces` places is left as it was, with the answer 0
 abbrev pub outcomeOfRespond : List ℕ → List ℕ → RespondOutcome
 outcomeOfRespond input output = respondBy outputPlaces (response input) output

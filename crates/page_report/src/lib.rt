@@ -13,8 +13,8 @@ pub use program::respond_in;
 // largest file.
 pub const LONGEST_INPUT: usize = 4 + 4 * MAX_VERTICES + 2 * (2 + MAX_VERTICES + 2 * MAX_EDGES);
 
-// The places of the program's input buffer: one more, so that what is longer is seen to be and is
-// not taken for its first bytes.
+// The places of the program's input buffer: one more than the longest input, so that a longer one
+// fills the buffer and is refused.
 pub const INPUT_PLACES: usize = LONGEST_INPUT + 1;
 
 // Room for any output: the pages of 4,096 vertices.

@@ -18,7 +18,7 @@ const DASH: u8 = 45;
 
 const ZERO: u8 = 48;
 
-// No distance, no parent.
+// An unset distance or parent.
 const UNSET: u16 = 65535;
 
 // How many bytes a line has, how many lines a full page, how many vertices.

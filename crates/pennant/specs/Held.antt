@@ -1,4 +1,5 @@
--- What a bag holds: the list of its numbers, weights summed over them, its shape, the bag with each number replaced, and a bag of 1, 2, .., n.
+-- What a bag holds: the list of its numbers, weights summed over them, its shape, the bag with each number
+-- replaced, and a bag of 1, 2, .., n. The laws of the operations are told by these.
 use Prim.Native.Nat.{ℕ, zero, suc, _+_}
 use mathlib.Core.Bool.{cond}
 use mathlib.Core.List.{List, [], _∷_, _++_, map}
@@ -52,14 +53,14 @@ size s = weigh one s
 abbrev pub copies : ℕ → Bag → ℕ
 copies v s = weigh (only v) s
 
--- a complete tree of 2^k - 1 numbers
+-- a complete tree of 2^k - 1 numbers (§4.1)
 abbrev pub Complete : ℕ → Tree → Type 0
 Complete zero null = Unit {0}
 Complete zero (node a l r) = ⊥
 Complete (suc k) null = ⊥
 Complete (suc k) (node a l r) = Complete k l × Complete k r
 
--- empty, or "a pennant of size 2^k"
+-- empty, or "a pennant of size 2^k" (§4.1)
 abbrev pub Pennant : ℕ → Slot → Type 0
 Pennant k gap = Unit {0}
 Pennant k (tip a t) = Complete k t
@@ -69,7 +70,7 @@ abbrev pub ShapedFrom : ℕ → Bag → Type 0
 ShapedFrom k [] = Unit {0}
 ShapedFrom k (x ∷ s) = Pennant k x × ShapedFrom (suc k) s
 
--- "slot k is empty or holds a pennant of size 2^k"
+-- "slot k is empty or holds a pennant of size 2^k" (§4.4)
 abbrev pub Shaped : Bag → Type 0
 Shaped s = ShapedFrom 0 s
 

@@ -1,4 +1,4 @@
--- The program's input split into its parts, its own sizes, and the numbers that it gives before the search has a word.
+-- The program's input split into its parts, its own sizes, and the numbers that it gives before it searches.
 use mathlib.Core.Bool.{_||_}
 use mathlib.Core.List.{List, [], _∷_}
 use Prim.Native.Nat.{ℕ, _+_}
@@ -10,15 +10,15 @@ use Rattle.graph.specs.File.{word, vertexCount, edgeCount, fileLength}
 use Rattle.graph.specs.Read.{outsideSizes}
 use Rattle.model.specs.Call.{Lent}
 
--- "Its own sizes: n 512 .."
+-- "Its own sizes: n 512 .." (§11.2)
 abbrev pub programVertices : ℕ
 programVertices = 512
 
--- ".. m 2,048 .."
+-- ".. m 2,048 .." (§11.2)
 abbrev pub programEdges : ℕ
 programEdges = 2048
 
--- ".. sheet 8,192."
+-- ".. sheet 8,192." (§11.2)
 abbrev pub programEvents : ℕ
 programEvents = 8192
 
@@ -26,35 +26,36 @@ programEvents = 8192
 abbrev pub programNodes : ℕ
 programNodes = 4097
 
--- "Standard input: words source, P, sheet length, then sheet, then file to the end.": the source
+-- "Standard input: words source, P, sheet length, then sheet, then file to the end.": the source (§11.1)
 unfoldable pub sourceIn : List ℕ → ℕ
 sourceIn input = word input 0
 
--- P
+-- P (§11.1)
 unfoldable pub workersIn : List ℕ → ℕ
 workersIn input = word input 1
 
--- the sheet length
+-- the sheet length (§11.1)
 unfoldable pub eventsIn : List ℕ → ℕ
 eventsIn input = word input 2
 
--- the sheet
+-- the sheet (§11.1)
 unfoldable pub scheduleIn : List ℕ → List ℕ
 scheduleIn input = take (eventsIn input) (drop 6 input)
 
--- the file
+-- the file (§11.1)
 unfoldable pub fileIn : List ℕ → List ℕ
 fileIn input = drop (6 + eventsIn input) input
 
--- "n or m outside 01's sizes 2, above its own 20"
+-- "n or m outside 01's sizes 2, above its own 20" (§11.3)
 unfoldable pub sizesRefusals : ℕ → ℕ → List Refusal
 sizesRefusals n m =
     outsideSizes n m gives badSize
     ∷ (ltb programVertices n || ltb programEdges m) gives shortList
     ∷ []
 
--- "Its order: fewer than three words 1; sheet length too large 20; input ending before 4 bytes of file 1; n or m outside 01's sizes 2, above its
--- own 20". The rest of it, "file length 1; then as above", is the search's own order, of which 1 (under 4) and 2 are passed then
+-- "Its order: fewer than three words 1; sheet length too large 20; input ending before 4 bytes of file 1; n or m
+-- outside 01's sizes 2, above its own 20". The rest of it, "file length 1; then as above", is the search's own
+-- order, of which 1 (under 4) and 2 are passed then (§11.3)
 unfoldable pub ownRefusals : List ℕ → List Refusal
 ownRefusals input =
     ltb (length input) 6 gives badLength
@@ -75,6 +76,6 @@ programLists = record {
   values = replicate programNodes 0;
 }
 
--- the longest input that can be accepted: three words, the largest sheet, the largest file
+-- the longest input that can be accepted: three words, the largest sheet, the largest file (§11.5)
 abbrev pub longestInput : ℕ
 longestInput = 6 + programEvents + fileLength programVertices programEdges

@@ -22,10 +22,10 @@ pub const LONGEST_INPUT: usize = 6
     + PROGRAM_EVENTS
     + 2 * (2 + PROGRAM_VERTICES + 2 * PROGRAM_EDGES);
 
-// The places of the program's input buffer: one more, so that what is longer is seen to be and is
-// not taken for its first bytes.
+// The places of the program's input buffer: one more than the longest input, so that a longer one
+// fills the buffer and is refused.
 pub const INPUT_PLACES: usize = LONGEST_INPUT + 1;
 
 // Room for any output: four numbers of at most 20 digits in line one, a vertex of 3 and two labels
-// of 5 in each other line.
+// of 5 digits in each other line.
 pub const OUTPUT_PLACES: usize = 8276;

@@ -65,7 +65,8 @@ pub fn put_vertex_lines(
     requires { ⌜ n ≤ length (now distances) ⌝ }
     requires { ⌜ n ≤ length (now parents) ⌝ }
     ensures { λ r. ⌜
-        Prints (vertexLines n (now (distances .entry)) (now (parents .entry))) (now (output .entry)) at (now (output .exit)) r
+        Prints (vertexLines n (now (distances .entry)) (now (parents .entry)))
+        (now (output .entry)) at (now (output .exit)) r
         ⌝ }
 {
     let mut next = at;

@@ -17,13 +17,14 @@ use crate::lines::put_vertex_lines;
 use graph::words::word;
 use search::search;
 
-// The search of an input that the program's own order does not refuse, with the program's lists, and
-// its lines.
+// The search of an input that passes the program's own order, with the program's lists, and its lines.
 fn search_and_print(input: &[u8], output: &mut [u8]) -> usize
     requires { ⌜ first (ownRefusals (now input)) ≡ success ⌝ }
     requires { ⌜ outputPlaces ≤ length (now output) ⌝ }
     ensures { λ r. ⌜
-        Printed (now (output .entry)) (lines (vertexCount (fileIn (now (input .entry)))) (searched (now (input .entry)))) (now (output .exit)) r
+        Printed (now (output .entry))
+        (lines (vertexCount (fileIn (now (input .entry)))) (searched (now (input .entry))))
+        (now (output .exit)) r
         ⌝ }
 {
     let start = 6 + word(input, 2);
@@ -64,9 +65,11 @@ fn search_and_print(input: &[u8], output: &mut [u8]) -> usize
 }
 
 // The program: what it writes for this input goes to the front of the output, and the answer says how
-// many bytes that is. An output list of less than `OUTPUT_PLACES` places is left as it is.
+// many bytes that is. An output list of fewer than `OUTPUT_PLACES` places is left as it is.
 pub fn respond(input: &[u8], output: &mut [u8]) -> usize
-    ensures { λ r. ⌜ respondExit r (now (output .exit)) ≡ outcomeOfRespond (now (input .entry)) (now (output .entry)) ⌝ }
+    ensures { λ r. ⌜
+        respondExit r (now (output .exit)) ≡ outcomeOfRespond (now (input .entry)) (now (output .entry))
+        ⌝ }
     ensures { λ r. ⌜ r ≤ length (now (output .exit)) ⌝ }
 {
     if output.len() < OUTPUT_PLACES {
@@ -79,9 +82,9 @@ pub fn respond(input: &[u8], output: &mut [u8]) -> usize
     search_and_print(input, output)
 }
 
-// The program in its buffers: the first `read` bytes of the input buffer, or all of it where it has
-// no more, are the input. By its type that buffer has a place more than the longest input that can be
-// accepted; whatever is longer is answered as the bytes that fill it are (`long-input`,
+// The program in its buffers: the first `read` bytes of the input buffer are the input, or all of it
+// where `read` is larger. By its type that buffer has one place more than the longest input that can
+// be accepted; a longer input is answered as the bytes that fill the buffer are (`long-input`,
 // proofs/OutputFacts.antt).
 pub fn respond_in(
     input: &[u8; INPUT_PLACES],
@@ -91,7 +94,10 @@ pub fn respond_in(
     ensures { λ _. ⌜ length (now (input .entry)) ≡ longestInput + 1 ⌝ }
     ensures { λ _. ⌜ length (now (output .entry)) ≡ outputPlaces ⌝ }
     ensures { λ _. ⌜ length (now (output .exit)) ≡ outputPlaces ⌝ }
-    ensures { λ r. ⌜ respondExit r (now (output .exit)) ≡ outcomeOfRespond (take read (now (input .entry))) (now (output .entry)) ⌝ }
+    ensures { λ r. ⌜
+        respondExit r (now (output .exit))
+        ≡ outcomeOfRespond (take read (now (input .entry))) (now (output .entry))
+        ⌝ }
     ensures { λ r. ⌜ r ≤ length (now (output .exit)) ⌝ }
 {
     let all: &[u8] = input;

@@ -19,7 +19,13 @@ pub record TripOutcome : Type 0 where
 
 -- the outcome that a call has
 abbrev pub tripExit : ℕ → List ℕ → List ℕ → List ℕ → List ℕ → TripOutcome
-tripExit number file offsets targets marks = record { number = number; file = file; offsets = offsets; targets = targets; marks = marks }
+tripExit number file offsets targets marks = record {
+  number = number;
+  file = file;
+  offsets = offsets;
+  targets = targets;
+  marks = marks;
+}
 
 -- after the writer: a refusal is handed on, and with 0 the file's own bytes, at the front of the lent list, are read
 unfoldable pub tripAfter : WriteOutcome → ℕ → List ℕ → List ℕ → List ℕ → TripOutcome
@@ -32,4 +38,5 @@ tripAfter wrote bytes offsets targets marks =
 -- the outcome of `write_and_read`: rows and a list of bytes to write to, and three lists to read into
 unfoldable pub outcomeOfTrip : List ℕ → List ℕ → List ℕ → List ℕ → List ℕ → List ℕ → TripOutcome
 outcomeOfTrip offsets targets file offsets₀ targets₀ marks₀ =
-    tripAfter (outcomeOfWrite offsets targets file) (fileLength (rowCount offsets) (length targets)) offsets₀ targets₀ marks₀
+    tripAfter (outcomeOfWrite offsets targets file) (fileLength (rowCount offsets) (length targets))
+    offsets₀ targets₀ marks₀

@@ -12,7 +12,11 @@ pub fn write_and_read(
     targets_read: &mut [u16],
     marks: &mut [u16],
 ) -> usize
-    ensures { λ r. ⌜ tripExit r (now (file .exit)) (now («offsets_read» .exit)) (now («targets_read» .exit)) (now (marks .exit)) ≡ outcomeOfTrip (now (offsets .entry)) (now (targets .entry)) (now (file .entry)) (now («offsets_read» .entry)) (now («targets_read» .entry)) (now (marks .entry)) ⌝ }
+    ensures { λ r. ⌜
+        tripExit r (now (file .exit)) (now («offsets_read» .exit)) (now («targets_read» .exit)) (now (marks .exit))
+        ≡ outcomeOfTrip (now (offsets .entry)) (now (targets .entry)) (now (file .entry))
+        (now («offsets_read» .entry)) (now («targets_read» .entry)) (now (marks .entry))
+        ⌝ }
 {
     let number = writer::write(offsets, targets, file);
     if number != numbers::SUCCESS {

@@ -13,7 +13,7 @@ pub struct Sums {
     pub tens: u64,
 }
 
-// No case.
+// The sums of no cases.
 pub fn none() -> Sums {
     Sums {
         tally: Tally::new(),

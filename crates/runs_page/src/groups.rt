@@ -21,7 +21,7 @@ struct Sums {
     late: u64,
 }
 
-// No case.
+// The sums of no cases.
 fn none() -> Sums {
     Sums {
         tally: Tally::new(),

@@ -25,7 +25,7 @@ const ROUND_COUNT: u16 = 4000;
 const BYTE_ROUNDS: u16 = 592;
 
 const CHAIN_ROUNDS: u16 = 2500;
-// No number of the product.
+// A number that no call answers.
 const WRONG: usize = 99;
 
 // The place, in words, of a head or of a next index.

@@ -24,7 +24,7 @@ const BYTE_ROUNDS: u16 = 600;
 // Case A's input has 59 bytes.
 const WHOLE: u16 = 59;
 
-// No number of the product.
+// A number that no call answers.
 const WRONG: usize = 99;
 
 // A byte below the bound.
@@ -81,7 +81,7 @@ fn vertices_in(input: &[u8]) -> u16 {
     low + 256 * high
 }
 
-// Whether no more events are effective than used, and no more used than there are.
+// Whether the effective events are at most the used ones, and these at most the schedule's.
 fn is_counted(done: Outcome, events: u16) -> bool {
     let seen = done.seen;
     if is_played(seen.number) {

@@ -143,7 +143,7 @@ pub fn run(plan: Plan, more: u16) -> Outcome {
     )
 }
 
-// A round: no drawn input is refused.
+// A round: every drawn input is accepted and played.
 pub fn is_right(round: u16) -> bool {
     let done = run(random_plans::plan_of(round), 0);
     let seen = done.seen;

@@ -17,7 +17,7 @@ const ZERO: u8 = 48;
 
 const NINE: u8 = 57;
 
-// No digit.
+// What stands for a byte that is no digit.
 const NONE: usize = 10;
 
 // What a list of labels has for `-`.

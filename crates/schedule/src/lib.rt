@@ -1,5 +1,5 @@
 // A schedule (document 01: event sheet) is a list of event bytes. `decode` says what event a byte
-// is, and the search goes through it. The form check tests bytes as they are, in their own width,
+// is, and the engine plays by it. The form check tests bytes as they are, in their own width,
 // and answers by the same `eventOf`.
 ghost use mathlib.Core.Path.{_≡_};
 ghost use Rattle.schedule.specs.Events.{eventOf, formOf, within};
@@ -73,7 +73,7 @@ fn byte_fits(byte: u8, workers: u8) -> bool
     work | pair | (byte == CLOSE_BYTE)
 }
 
-// Whether some byte is not of document 01's forms, or names a worker that isn't there.
+// Whether some byte is outside document 01's forms, or names a worker of P or more.
 fn any_stray(bytes: &[u8], workers: u8) -> bool
     ensures { λ r. ⌜ r ≡ anyStray workers (now (bytes .entry)) ⌝ }
 {

@@ -1,5 +1,5 @@
--- What `play` takes for granted and promises: the run on the first places of longer lists, and the node lists cleared. A prime marks what stands
--- there afterwards. No outside contract cites these.
+-- What `play` takes for granted and promises: the run on the first places of longer lists, and the node lists
+-- cleared. A prime marks what stands there afterwards. Only the contracts of inner steps cite these.
 use mathlib.Core.Path.{_≡_}
 use mathlib.Core.List.{List, map}
 use Prim.Native.Nat.{ℕ, _+_, _≤_}
@@ -19,8 +19,9 @@ use Rattle.engine.specs.Runs.{answerOf, Told}
 abbrev pub refusedWith : ℕ → Answer
 refusedWith number = answerOf number 0 0 0
 
--- `play`: what it takes for granted: of the first places of longer lists, what `run` does of whole ones
-pub record Playable (n m source P : ℕ) (schedule offsets targets distances parents left right values : List ℕ) : Type 0 where
+-- what `play` takes for granted: of the first places of longer lists, what `run` does of whole ones
+pub record Playable (n m source P : ℕ)
+    (schedule offsets targets distances parents left right values : List ℕ) : Type 0 where
   pub rows : GraphRows (take (n + 1) offsets) (take m targets) n
   pub accepted : Accepted (rowsOf (take (n + 1) offsets) (take m targets)) source P schedule
   pub few-events : length schedule ≤ maxEvents
@@ -33,7 +34,8 @@ pub record Playable (n m source P : ℕ) (schedule offsets targets distances par
   pub values-there : nodePlaces n P ≤ length values
 
 -- what `play` promises: the labels in the first places, the nodes' first places 0, the others as they were
-pub record PlayedOut (r : Run) (places : ℕ) (distances parents left right values distances′ parents′ left′ right′ values′ : List ℕ)
+pub record PlayedOut (r : Run) (places : ℕ)
+    (distances parents left right values distances′ parents′ left′ right′ values′ : List ℕ)
     (answer : Answer) : Type 0 where
   pub told : Told r answer
   pub labelled : distances′ ≡ overlay (map wordOf (r .state .labels .distances)) distances

@@ -89,9 +89,14 @@ fn play(
     right: &mut [u16],
     values: &mut [u16],
 ) -> Answer
-    requires { ⌜ Playable n m source workers (now schedule) (now offsets) (now targets) (now distances) (now parents) (now left) (now right) (now values) ⌝ }
+    requires { ⌜
+        Playable n m source workers (now schedule) (now offsets) (now targets) (now distances) (now parents)
+        (now left) (now right) (now values)
+        ⌝ }
     ensures { λ r. ⌜
-        PlayedOut (model.play (rowsOf (take (n + 1) (now (offsets .entry))) (take m (now (targets .entry)))) source workers (now (schedule .entry)))
+        PlayedOut
+        (model.play (rowsOf (take (n + 1) (now (offsets .entry))) (take m (now (targets .entry))))
+        source workers (now (schedule .entry)))
         (nodePlaces n workers)
         (now (distances .entry)) (now (parents .entry)) (now (left .entry)) (now (right .entry)) (now (values .entry))
         (now (distances .exit)) (now (parents .exit)) (now (left .exit)) (now (right .exit)) (now (values .exit))

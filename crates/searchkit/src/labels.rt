@@ -3,7 +3,7 @@
 use testkit::sample::after;
 use testkit::words::at;
 
-// No distance, no parent.
+// An unset distance or parent.
 const UNSET: u16 = 65535;
 
 // What the labels are judged by: n, the source, the layer d, and whether the search was finished.
@@ -33,8 +33,8 @@ pub fn has_edge(rows: &[u16], row_targets: &[u16], from: u16, to: u16) -> bool {
     false
 }
 
-// Whether a vertex without a distance is right to have none: when d is its distance or more, or the
-// search is finished, it had to get one.
+// Whether a vertex may have an unset distance: its parent is unset too, and the source does not reach
+// it, or the search goes on and d is still below its distance.
 fn may_be_unset(view: View, parent: u16, wanted: u16) -> bool {
     if parent != UNSET {
         return false;
@@ -61,8 +61,8 @@ fn is_parent(
     nearer & has_edge(rows, row_targets, parent, vertex)
 }
 
-// Whether both labels of one vertex are right. Only before the finish a vertex may have a distance
-// and no parent yet, and no distance is more than d + 1.
+// Whether both labels of one vertex are right. A distance is at most d + 1. Until the finish a vertex
+// may have a distance and still no parent.
 fn is_right(
     view: View,
     vertex: u16,

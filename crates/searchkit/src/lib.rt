@@ -1,4 +1,4 @@
-// What the runs of the search and of the checker share and that needs neither: requests, drawn
+// What the runs of the search and of the checker share, without a call of either: requests, drawn
 // schedules, a plain queue search, comparisons of lists and labels, and the tables of cases.
 //
 // Every read and write of a list is guarded, so that no function here requires anything.

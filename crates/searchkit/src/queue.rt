@@ -3,7 +3,7 @@ use testkit::sample::after;
 use testkit::words::at;
 use testkit::words::put;
 
-// No distance.
+// An unset distance.
 const UNSET: u16 = 65535;
 
 // How far a search is: the place in the queue of the vertex that is looked at, the queue's end, the

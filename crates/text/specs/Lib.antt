@@ -1,4 +1,5 @@
--- Text: numbers and labels as ASCII bytes, what it means to print one behind another, and a program's output. Read in this order.
+-- Text: numbers and labels as ASCII bytes, a program's output, and what a step of printing promises.
+-- Read in this order.
 pub mod Text
 pub mod Output
 pub mod Printed

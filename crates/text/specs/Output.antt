@@ -15,7 +15,8 @@ pub record RespondOutcome : Type 0 where
 abbrev pub respondExit : ℕ → List ℕ → RespondOutcome
 respondExit count output = record { count = count; output = output }
 
--- the outcome of a call that writes a text: a list of fewer places than some output needs is left as it was, and nothing counts as written
+-- the outcome of a call that writes a text: a list of fewer than `places` places is left as it was, with the
+-- answer 0
 unfoldable pub respondBy : ℕ → List ℕ → List ℕ → RespondOutcome
 respondBy places text output =
     cond (ltb (length output) places) (respondExit 0 output) (respondExit (length text) (overlay text output))

@@ -1,4 +1,5 @@
--- What the steps of printing take for granted and promise. No outside contract cites these.
+-- What the steps of printing take for granted and promise: each prints behind the text that stands there.
+-- Only the contracts of inner steps cite these.
 use mathlib.Core.Path.{_≡_}
 use mathlib.Core.List.{List, _++_}
 use Prim.Native.Nat.{ℕ, _≤_}
@@ -13,4 +14,5 @@ pub record Printed (old text output : List ℕ) (at : ℕ) : Type 0 where
 
 -- a step that prints `more` behind whatever stands there already
 abbrev pub Prints : List ℕ → List ℕ → ℕ → List ℕ → ℕ → Type 0
-Prints more output at output′ at′ = (old text : List ℕ) → Printed old text output at → Printed old (text ++ more) output′ at′
+Prints more output at output′ at′ =
+    (old text : List ℕ) → Printed old text output at → Printed old (text ++ more) output′ at′

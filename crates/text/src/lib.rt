@@ -1,5 +1,6 @@
-// Numbers and labels as text, printed behind each other into a list of bytes. Each step answers how
-// many places are used then. Programs and pages print by these steps.
+// Prints numbers and labels as text into a list of bytes, one behind the other. Each step is told at
+// which place to print and answers the place behind what it printed. The programs and the pages print
+// by these steps.
 ghost use mathlib.Core.Path.{_≡_};
 ghost use mathlib.Core.List.{[], _∷_, _++_};
 ghost use Prim.Native.Nat.{_+_, _<_, _≤_, max};
@@ -13,7 +14,7 @@ pub const SPACE: u8 = 32;
 // At the end of a line.
 pub const LINE_FEED: u8 = 10;
 
-// The width of a field that has no columns of its own: no blank before it.
+// The width of a field without columns of its own: it begins where the one before it ends.
 pub const UNALIGNED: usize = 0;
 
 // One byte.

@@ -1,5 +1,5 @@
--- The checker's definitions computed, on the files of document 01's cases: the results of A and B, results that are wrong in one place, the numbers
--- of the refusals, and the lists that a wrong result leaves.
+-- The checker's definitions computed, on the files of document 01's cases: the results of A and B, results that are wrong at one device, the
+-- numbers of the refusals, and the lists that a wrong result leaves.
 use mathlib.Core.Path.{_≡_, refl}
 use mathlib.Core.List.{List, [], _∷_, map, flatten}
 use Prim.Native.Nat.{ℕ}
@@ -43,8 +43,8 @@ rightCases =
     ∷ caseOf wordsC 0 (0 ∷ 7 ∷ []) (0 ∷ 7 ∷ [])
     ∷ []
 
--- A's result with one label wrong: a parent without a link, one that isn't nearer, one of n, none; a longer distance, none; the source's own parent;
--- and an unreached device with a parent, or with a distance
+-- A's result, wrong at one device: a parent without a link, one that isn't nearer, one of n, none; a longer distance; no distance and no parent;
+-- the source's own parent; and an unreached device with a parent, or with a distance and a parent
 abbrev pub wrongCases : List Case
 wrongCases =
     caseOf wordsA 0 (0 ∷ 1 ∷ 1 ∷ 2 ∷ []) (0 ∷ 0 ∷ 0 ∷ 0 ∷ [])

@@ -1,5 +1,6 @@
--- What the checker answers and what every lent list holds at exit, for every file, source, result and list. The order of refusals is
--- `checkRefusals`. Distances and parents are lent for reading alone, so nothing is said of them at exit.
+-- What the checker answers and what every lent list holds at exit, for every file, source, result and list. The
+-- order of refusals is `checkRefusals`. Distances and parents are lent for reading alone, so nothing is said of
+-- them at exit.
 use mathlib.Core.Bool.{Bool, cond, _||_}
 use mathlib.Core.List.{List, [], _∷_, _++_}
 use Prim.Native.Nat.{ℕ}
@@ -38,12 +39,14 @@ lentLengths distances parents lent = record {
   marks = length (lent .marks);
 }
 
--- "20: a lent list is shorter than its need": "offsets n + 1, targets and marks m, distances and parents n"
+-- "20: a lent list is shorter than its need": "offsets n + 1, targets and marks m, distances and parents n" (§10.3)
 unfoldable pub checkShort : ℕ → ℕ → CheckLengths → Bool
 checkShort n m lengths =
-    rowsShort n m (lengths .offsets) (lengths .targets) (lengths .marks) || ltb (lengths .distances) n || ltb (lengths .parents) n
+    rowsShort n m (lengths .offsets) (lengths .targets) (lengths .marks)
+    || ltb (lengths .distances) n
+    || ltb (lengths .parents) n
 
--- "Order: 1 (under 4), 2, 1 (length), 4, 3, 7, .., 20": what is judged before a list is written
+-- "Order: 1 (under 4), 2, 1 (length), 4, 3, 7, .., 20": what is judged before a list is written (§10.2)
 unfoldable pub checkEarly : List ℕ → ℕ → CheckLengths → List Refusal
 checkEarly file source lengths =
     headerRefusals file
@@ -51,11 +54,12 @@ checkEarly file source lengths =
     ++ (leb (vertexCount file) source gives badSource ∷ [])
     ++ (checkShort (vertexCount file) (edgeCount file) lengths gives shortList ∷ [])
 
--- ".. 5, 6", all of it before the result is looked at
+-- ".. 5, 6", all of it before the result is looked at (§10.2)
 unfoldable pub checkInput : List ℕ → ℕ → List ℕ → List ℕ → CheckLent → List Refusal
-checkInput file source distances parents lent = checkEarly file source (lentLengths distances parents lent) ++ chainRefusals file
+checkInput file source distances parents lent =
+    checkEarly file source (lentLengths distances parents lent) ++ chainRefusals file
 
--- "then 10": longer lists count by their first n places
+-- "then 10": longer lists count by their first n places (§10.2)
 unfoldable pub checkRefusals : List ℕ → ℕ → List ℕ → List ℕ → CheckLent → List Refusal
 checkRefusals file source distances parents lent =
     checkInput file source distances parents lent
@@ -69,13 +73,15 @@ checkNumber file source distances parents lent = first (checkRefusals file sourc
 unfoldable pub judges : ℕ → Bool
 judges number = elem number (success ∷ badResult ∷ [])
 
--- the lists at exit: "A refusal .. other than 10 and 21 changes nothing, but with 5 and 6 the first m marks become 0. Every call that gets past 6
--- leaves the first m marks 0 and writes rows. .. Places past the need keep their contents."
+-- the lists at exit: "A refusal .. other than 10 and 21 changes nothing, but with 5 and 6 the first m marks
+-- become 0. Every call that gets past 6 leaves the first m marks 0 and writes rows. .. Places past the need keep
+-- their contents." (§10.4)
 unfoldable pub lentAfterCheck : ℕ → List ℕ → CheckLent → CheckLent
 lentAfterCheck number file lent = record {
   offsets = cond (judges number) (overlay (offsetsOf (graphOf file)) (lent .offsets)) (lent .offsets);
   targets = cond (judges number) (overlay (targetsOf (graphOf file)) (lent .targets)) (lent .targets);
-  marks = cond (judges number || clearsMarks number) (overlay (replicate (edgeCount file) 0) (lent .marks)) (lent .marks);
+  marks =
+      cond (judges number || clearsMarks number) (overlay (replicate (edgeCount file) 0) (lent .marks)) (lent .marks);
 }
 
 -- what a call answers, and the lists at exit
@@ -83,7 +89,7 @@ pub record CheckOutcome : Type 0 where
   pub number : ℕ
   pub lent : CheckLent
 
--- the outcome of a check
+-- the outcome of a check (§8.2)
 unfoldable pub outcomeOfCheck : List ℕ → ℕ → List ℕ → List ℕ → CheckLent → CheckOutcome
 outcomeOfCheck file source distances parents lent =
     let number = checkNumber file source distances parents lent in

@@ -1,4 +1,5 @@
--- What the steps of the checker take for granted, and what the first of them answers. No outside contract cites these.
+-- What the steps of the checker take for granted, and what the first of them answers.
+-- Only the contracts of inner steps cite these.
 use mathlib.Core.Path.{_≡_}
 use mathlib.Core.List.{List}
 use Prim.Native.Nat.{ℕ, _+_, _≤_, _<_}
@@ -13,11 +14,18 @@ use Rattle.verify.specs.Check as check
 
 -- the code's lengths as the definitions'
 abbrev pub lengthsIn : Lengths → check.CheckLengths
-lengthsIn x = record { distances = x .distances; parents = x .parents; offsets = x .offsets; targets = x .targets; marks = x .marks }
+lengthsIn x = record {
+  distances = x .distances;
+  parents = x .parents;
+  offsets = x .offsets;
+  targets = x .targets;
+  marks = x .marks;
+}
 
 -- the number of the tests before the chains, with n and m beside 0
 unfoldable pub earlyAnswer : List ℕ → ℕ → check.CheckLengths → ReadAnswer
-earlyAnswer file source lengths = answerWith (first (check.checkEarly file source lengths)) (vertexCount file) (edgeCount file)
+earlyAnswer file source lengths =
+    answerWith (first (check.checkEarly file source lengths)) (vertexCount file) (edgeCount file)
 
 -- rows of a graph of n vertices, and a distance and a parent for each
 pub record Checkable (source : ℕ) (offsets targets distances parents : List ℕ) : Type 0 where

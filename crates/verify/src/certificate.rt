@@ -1,5 +1,6 @@
-// The local certificate: each vertex is judged by its own label, its parent's and its targets'. No
-// list is written; a parent is an index only below n, and nothing is added to an unset distance.
+// The local certificate: each vertex is judged by its own label, its parent's and its targets'. All
+// lists are read alone; a parent is used as an index only below n, and 1 is added only to a distance
+// that is set.
 ghost use mathlib.Core.Path.{_≡_};
 ghost use mathlib.Core.Bool.{false};
 ghost use mathlib.Core.List.{map};
@@ -47,7 +48,8 @@ fn has_edge(row: &[u16], vertex: usize) -> bool
     false
 }
 
-// Whether this is no parent for the vertex at this distance, which isn't unset.
+// Whether the parent is wrong for the vertex at this distance, which is set: a right parent is a vertex
+// with a distance one less and an edge to this one.
 fn parent_wrong(
     vertex: usize,
     distance: usize,
@@ -58,7 +60,8 @@ fn parent_wrong(
 ) -> bool
     requires { ⌜ GraphRows (now offsets) (now targets) (length (now distances)) ⌝ }
     ensures { λ r. ⌜
-        r ≡ parentWrong (rowsOf (now (offsets .entry)) (now (targets .entry))) (map optionOf (now (distances .entry))) vertex distance (optionOf parent)
+        r ≡ parentWrong (rowsOf (now (offsets .entry)) (now (targets .entry)))
+        (map optionOf (now (distances .entry))) vertex distance (optionOf parent)
         ⌝ }
 {
     if distances.len() <= parent {
@@ -89,7 +92,8 @@ fn vertex_wrong(
     requires { ⌜ Checkable source (now offsets) (now targets) (now distances) (now parents) ⌝ }
     requires { ⌜ vertex < length (now distances) ⌝ }
     ensures { λ r. ⌜
-        r ≡ vertexWrong (rowsOf (now (offsets .entry)) (now (targets .entry))) source (labelsOf (now (distances .entry)) (now (parents .entry))) vertex
+        r ≡ vertexWrong (rowsOf (now (offsets .entry)) (now (targets .entry))) source
+        (labelsOf (now (distances .entry)) (now (parents .entry))) vertex
         ⌝ }
 {
     let distance = element(distances, vertex);
@@ -120,7 +124,8 @@ pub fn result_wrong(
 ) -> bool
     requires { ⌜ Checkable source (now offsets) (now targets) (now distances) (now parents) ⌝ }
     ensures { λ r. ⌜
-        r ≡ resultWrong (rowsOf (now (offsets .entry)) (now (targets .entry))) source (labelsOf (now (distances .entry)) (now (parents .entry)))
+        r ≡ resultWrong (rowsOf (now (offsets .entry)) (now (targets .entry))) source
+        (labelsOf (now (distances .entry)) (now (parents .entry)))
         ⌝ }
 {
     let mut vertex = 0;

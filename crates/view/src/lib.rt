@@ -40,7 +40,9 @@ fn bounds(offsets: &[u16], targets: &[u16], vertex: usize) -> Row
 // "The part of the targets list itself that belongs to the device, or an empty part where number 11
 // holds": where it is, then what it holds. The empty part is at the front.
 pub fn links<'a, 'b>(offsets: &'b [u16], targets: &'a [u16], vertex: usize) -> &'a [u16]
-    ensures { λ r. ⌜ ptr r ≡ wordPlace (ptr (targets .entry)) (linksStart (now (offsets .entry)) (now (targets .entry)) vertex) ⌝ }
+    ensures { λ r. ⌜
+        ptr r ≡ wordPlace (ptr (targets .entry)) (linksStart (now (offsets .entry)) (now (targets .entry)) vertex)
+        ⌝ }
     ensures { λ r. ⌜ now r ≡ linksOf (now (offsets .entry)) (now (targets .entry)) vertex ⌝ }
 {
     let front = 0;
@@ -53,7 +55,7 @@ pub fn links<'a, 'b>(offsets: &'b [u16], targets: &'a [u16], vertex: usize) -> &
     &targets[start..end]
 }
 
-// 0, or 11 where the view has no part to give.
+// "a sister call gives 0 or 11": 11 where the vertex is out of view.
 pub fn links_number(offsets: &[u16], targets: &[u16], vertex: usize) -> usize
     ensures { λ r. ⌜ r ≡ linksNumber (now (offsets .entry)) (now (targets .entry)) vertex ⌝ }
 {

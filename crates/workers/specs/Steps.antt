@@ -1,5 +1,5 @@
--- What the steps of the search take for granted and what they promise: one worker's move, the close. A prime marks what stands there afterwards.
--- No outside contract cites these.
+-- What the steps of the search take for granted and what they promise: one worker's move, the close. A prime
+-- marks what stands there afterwards. Only the contracts of inner steps cite these.
 use mathlib.Core.Path.{_≡_}
 use mathlib.Core.Bool.{cond}
 use mathlib.Core.List.{List, [], _∷_, map, foldl}
@@ -39,14 +39,16 @@ InRows offsets n (Named u e f t) = EdgeOf offsets n u e f × (t < n)
 
 -- One worker's move.
 
--- `hold`: at edge e of u, or free where u has no such edge
+-- `hold`: at edge e of u; "A device whose links are used up frees its worker."
 unfoldable pub holdFrom : List ℕ → ℕ → ℕ → Phase
 holdFrom offsets u e = cond (ltb e (getD offsets (u + 1) 0)) (Holding u e (getD offsets (u + 1) 0)) Free
 
--- `look`: at edge e of u
+-- `look` at edge e of u: "if t's distance is unset it has t in hand, else it passes on"
 unfoldable pub lookAt : List ℕ → List ℕ → List ℕ → ℕ → ℕ → Phase
 lookAt offsets targets distances u e =
-    cond (eqb (getD distances (getD targets e 0) 0) unset) (InHand u e (getD offsets (u + 1) 0) (getD targets e 0)) (holdFrom offsets u (e + 1))
+    cond (eqb (getD distances (getD targets e 0) 0) unset)
+    (InHand u e (getD offsets (u + 1) 0) (getD targets e 0))
+    (holdFrom offsets u (e + 1))
 
 -- a phase that moves without a bag, with an edge that is in the targets, to a vertex
 abbrev pub Between : List ℕ → ℕ → Phase → Type 0
@@ -56,9 +58,11 @@ Between targets n (InHand u e f t) = t < n
 Between targets n (Marked u e f t) = t < n
 Between targets n (Named u e f t) = ⊥
 
--- `advance`: such a move
-pub record Advanced (phase : Phase) (layer : ℕ) (offsets targets distances parents distances′ parents′ : List ℕ) (phase′ : Phase) : Type 0 where
-  pub made : (input output : Bag) → move (rowsOf offsets targets) layer (labelsOf distances parents) input output (phaseOf offsets phase)
+-- what `advance` promises: the model's move, and a phase that is in the rows
+pub record Advanced (phase : Phase) (layer : ℕ)
+    (offsets targets distances parents distances′ parents′ : List ℕ) (phase′ : Phase) : Type 0 where
+  pub made : (input output : Bag)
+      → move (rowsOf offsets targets) layer (labelsOf distances parents) input output (phaseOf offsets phase)
       ≡ some (model.workerWith input output (phaseOf offsets phase′), labelsOf distances′ parents′)
   pub in-rows : InRows offsets (length distances) phase′
   pub distances-length : length distances′ ≡ length distances
@@ -68,8 +72,9 @@ pub record Advanced (phase : Phase) (layer : ℕ) (offsets targets distances par
 abbrev pub holdFirst : List ℕ → ℕ → Phase
 holdFirst offsets u = holdFrom offsets u (getD offsets u 0)
 
--- `begin`: the bag's next number is taken, and held at its first edge
-pub record BegunFrom (input : declared.Bag) (offsets left right values left′ : List ℕ) (input′ : declared.Bag) (phase′ : Phase) : Type 0 where
+-- what `begin` promises: "it takes from its input bag", and holds the vertex at its first edge
+pub record BegunFrom (input : declared.Bag) (offsets left right values left′ : List ℕ)
+    (input′ : declared.Bag) (phase′ : Phase) : Type 0 where
   pub taken : TakenFrom left right values input left′ input′ (takenNumber (heldBy left right values input))
   pub held : phase′ ≡ holdFirst offsets (takenNumber (heldBy left right values input))
 
@@ -83,12 +88,14 @@ heldOf (InHand u e f t) = 1
 heldOf (Marked u e f t) = 1
 heldOf (Named u e f t) = 1
 
--- `gather`: bags united in order into a first one
-pub record Gathered (first : declared.Bag) (bags : List declared.Bag) (left right left′ right′ : List ℕ) (bag : declared.Bag) : Type 0 where
-  pub united : (values : List ℕ) → heldBy left′ right′ values bag ≡ foldl bagUnion (heldBy left right values first) (map (heldBy left right values) bags)
+-- what `gather` promises: "output bags 0 to P - 1 are united in that order into worker 0's input bag"
+pub record Gathered (first : declared.Bag) (bags : List declared.Bag)
+    (left right left′ right′ : List ℕ) (bag : declared.Bag) : Type 0 where
+  pub united : (values : List ℕ) → heldBy left′ right′ values bag
+      ≡ foldl bagUnion (heldBy left right values first) (map (heldBy left right values) bags)
   pub moved : Moved left right (first ∷ bags) left′ right′ (bag ∷ [])
 
--- eight bags, all of them empty but for the first
+-- eight bags: this one first, the others empty
 abbrev pub firstOfEight : declared.Bag → List declared.Bag
 firstOfEight bag = set (replicate maxWorkers newBag) 0 bag
 

@@ -31,7 +31,8 @@ pub fn gather(
     requires { ⌜ workers ≤ maxWorkers ⌝ }
     requires { ⌜ Pooled (now left) (now right) (first ∷ take workers outputs) ⌝ }
     ensures { λ r. ⌜
-        Gathered first (take workers outputs) (now (left .entry)) (now (right .entry)) (now (left .exit)) (now (right .exit)) r
+        Gathered first (take workers outputs)
+        (now (left .entry)) (now (right .entry)) (now (left .exit)) (now (right .exit)) r
         ⌝ }
 {
     let mut bag = first;
@@ -44,7 +45,7 @@ pub fn gather(
     bag
 }
 
-// Eight bags, all of them empty but for the first.
+// Eight bags: this one first, the others empty.
 pub fn first_of_eight(bag: Bag) -> [Bag; 8]
     ensures { λ r. ⌜ r ≡ firstOfEight bag ⌝ }
 {

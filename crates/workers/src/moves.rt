@@ -110,7 +110,7 @@ pub fn advance(
     }
 }
 
-// "Free: it takes from its input bag, if that isn't empty": of a bag that isn't.
+// "Free: it takes from its input bag, if that isn't empty". The caller has tested that.
 pub fn begin(input: Bag, offsets: &[u16], left: &mut [u16], right: &[u16], values: &[u16]) -> Begun
     requires { ⌜ Pooled (now left) (now right) (input ∷ []) ⌝ }
     requires { ⌜ length (now left) ≤ length (now values) ⌝ }
@@ -155,7 +155,10 @@ pub fn stow(
         Inserted (now (left .entry)) (now (right .entry)) (now (values .entry)) output target
         (now (left .exit)) (now (right .exit)) (now (values .exit)) (r .output)
         ⌝ }
-    ensures { λ r. ⌜ ((offsets : List ℕ) → end ≡ getD offsets (vertex + 1) 0 → r .phase ≡ holdFrom offsets vertex (edge + 1)) ⌝ }
+    ensures { λ r. ⌜
+        ((offsets : List ℕ) → end ≡ getD offsets (vertex + 1) 0
+        → r .phase ≡ holdFrom offsets vertex (edge + 1))
+        ⌝ }
 {
     Stowed {
         output: bag::insert(output, target, left, right, values),

@@ -1,4 +1,5 @@
--- What the inner steps of writing take for granted of each other: rows that are not malformed, and the index that a chain goes on with.
+-- What the inner steps of writing take for granted of each other: rows that pass the test of 11, and the index
+-- that a chain goes on with.
 use Prim.Native.Nat.{ℕ, suc, _+_, _≤_}
 use mathlib.Core.Bool.{false, cond}
 use mathlib.Core.Path.{_≡_}
@@ -12,7 +13,7 @@ use Rattle.graph.specs.Write.{malformed}
 unfoldable pub indexAfter : ℕ → ℕ → ℕ
 indexAfter k end = cond (eqb k end) 0 (suc k)
 
--- the rows are not malformed, and n is how many there are
+-- rows that pass the test of 11, n of them
 pub record WellFormed (offsets targets : List ℕ) (n : ℕ) : Type 0 where
   pub vertices : length offsets ≡ n + 1
   pub fewVertices : n ≤ maxVertices

@@ -17,7 +17,10 @@ use graph::words::put;
 
 // 11, then 20; otherwise the bytes of the file, and 0.
 pub fn write(offsets: &[u16], targets: &[u16], file: &mut [u8]) -> usize
-    ensures { λ r. ⌜ writeExit r (now (file .exit)) ≡ outcomeOfWrite (now (offsets .entry)) (now (targets .entry)) (now (file .entry)) ⌝ }
+    ensures { λ r. ⌜
+        writeExit r (now (file .exit))
+        ≡ outcomeOfWrite (now (offsets .entry)) (now (targets .entry)) (now (file .entry))
+        ⌝ }
 {
     if malformed(offsets, targets) {
         return numbers::BAD_ROWS;
@@ -101,7 +104,11 @@ fn index_after(k: usize, end: usize) -> usize
 fn put_heads(offsets: &[u16], targets: &[u16], n: usize, file: &mut [u8])
     requires { ⌜ WellFormed (now offsets) (now targets) n ⌝ }
     requires { ⌜ fileLength n (length (now targets)) ≤ length (now file) ⌝ }
-    ensures { λ _. ⌜ now (file .exit) ≡ overlay (take (2 * (2 + n)) (encode (rowsOf (now (offsets .entry)) (now (targets .entry))))) (now (file .entry)) ⌝ }
+    ensures { λ _. ⌜
+        now (file .exit)
+        ≡ overlay (take (2 * (2 + n)) (encode (rowsOf (now (offsets .entry)) (now (targets .entry)))))
+        (now (file .entry))
+        ⌝ }
 {
     put(file, 0, n);
     put(file, 1, targets.len());
@@ -118,7 +125,10 @@ fn put_records(offsets: &[u16], targets: &[u16], n: usize, file: &mut [u8])
     requires { ⌜ WellFormed (now offsets) (now targets) n ⌝ }
     requires { ⌜ fileLength n (length (now targets)) ≤ length (now file) ⌝ }
     requires { ⌜ now file ≡ overlay (take (2 * (2 + n)) (encode (rowsOf (now offsets) (now targets)))) (now file) ⌝ }
-    ensures { λ _. ⌜ now (file .exit) ≡ overlay (encode (rowsOf (now (offsets .entry)) (now (targets .entry)))) (now (file .entry)) ⌝ }
+    ensures { λ _. ⌜
+        now (file .exit)
+        ≡ overlay (encode (rowsOf (now (offsets .entry)) (now (targets .entry)))) (now (file .entry))
+        ⌝ }
 {
     let mut vertex = 0;
     let mut k = 0;
