@@ -38,9 +38,9 @@
 #include <stdint.h>
 
 /* The version of this interface. It rises by one whenever the arguments of a function, a list's
- * need or what a number means changes; a new function, number or macro beside the old ones leaves
- * it. CHANGELOG.md says what changed in each. So a caller that was written for an older header can
- * be told apart when it is compiled:
+ * need, a limit, what a call leaves or what a number means changes; a new function, number or macro
+ * beside the old ones leaves it. CHANGELOG.md says what changed in each. So a caller that was written
+ * for an older header can be told apart when it is compiled:
  *
  *     #if HOPMAP_VERSION != 1
  *     #error "written for version 1 of hopmap.h"

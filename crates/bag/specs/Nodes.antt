@@ -46,7 +46,7 @@ bagWith slots = record { slots = slots }
 abbrev pub emptySlots : List ℕ
 emptySlots = replicate slotCount 0
 
--- BAG-CREATE: the empty bag
+-- BAG-CREATE: the empty bag (§4.4)
 abbrev pub newBag : declared.Bag
 newBag = bagWith emptySlots
 
@@ -55,10 +55,10 @@ abbrev pub pastBag : declared.Bag
 pastBag = bagWith []
 
 -- "Free nodes are chained by a next index, zero ends the chain": the chain from x on through left,
--- at most `steps` nodes
+-- at most `steps` nodes (§4.11)
 unfoldable pub freeFrom : List ℕ → ℕ → ℕ → List ℕ
 freeFrom left steps x = chainFrom (λ n. getD left n 0) steps x
 
--- the free nodes: the chain starts at place 0, which is no node's
+-- the free nodes: the chain starts at place 0, which is no node's (§4.11)
 unfoldable pub freeNodes : List ℕ → List ℕ
 freeNodes left = freeFrom left (length left) (getD left 0 0)

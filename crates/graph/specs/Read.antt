@@ -65,7 +65,7 @@ unfoldable pub answerWith : ℕ → ℕ → ℕ → ReadAnswer
 answerWith number n m =
     cond (eqb number success) (record { number = number; vertices = n; edges = m }) (refusalAnswer number)
 
--- whether rows are written with this number: "Every call that gets past 6 .. writes rows" (§2.7)
+-- whether rows are written with this number: "Every call that gets past 6 .. writes rows" (§10.4)
 unfoldable pub writesRows : ℕ → Bool
 writesRows number = eqb number success
 

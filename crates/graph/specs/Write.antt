@@ -48,7 +48,7 @@ pub record WriteOutcome : Type 0 where
 abbrev pub writeExit : ℕ → List ℕ → WriteOutcome
 writeExit number file = record { number = number; file = file }
 
--- the outcome with this number: a refusal "changes nothing", "Places past the need keep their contents" (§2.9)
+-- the outcome with this number: a refusal "changes nothing", "Places past the need keep their contents" (§2.9, §10.5)
 unfoldable pub writeOutcomeBy : ℕ → List ℕ → List ℕ → List ℕ → WriteOutcome
 writeOutcomeBy number offsets targets file = record {
   number = number;

@@ -53,7 +53,7 @@ scheduleA event18 event19 =
     replicate 9 0
     ++ 192 ∷ 72 ∷ 0 ∷ 8 ∷ 0 ∷ 8 ∷ 0 ∷ 8 ∷ event18 ∷ event19 ∷ 0 ∷ 8 ∷ 192 ∷ 0 ∷ 0 ∷ 192 ∷ []
 
--- C: "sheet 0, 192". "What E to I leave unsaid is as in C."
+-- C: "sheet 0, 192". "What E to I leave unsaid is as in C." (§14.2)
 abbrev pub scheduleC : List ℕ
 scheduleC = 0 ∷ 192 ∷ []
 

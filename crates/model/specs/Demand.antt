@@ -63,7 +63,7 @@ pub record Fitting (g : Graph) (P : ℕ) (s : State) : Type 0 where
   pub parents-below : (v p : ℕ) → parentOf (s .labels) v ≡ some p → p < length g
   pub layer-below : s .layer < length g
 
--- "the finishing event": the byte at this place, which is the last one used
+-- "the finishing event": the byte at this place, which is the last one used (§6.9)
 pub record Finisher (g : Graph) (source P : ℕ) (schedule : List ℕ) (used : ℕ) : Type 0 where
   pub place : ℕ
   pub last-used : used ≡ suc place
@@ -72,9 +72,9 @@ pub record Finisher (g : Graph) (source P : ℕ) (schedule : List ℕ) (used : �
 
 -- the claim, over the places 0, 1, .. of the one schedule: the state after k bytes is `stateAt g source P schedule k`
 pub record Demand (g : Graph) (source P : ℕ) (schedule : List ℕ) : Type 0 where
-  -- (a) "A layer opens at the start .. (§7.2)
+  -- (a) (§7.2) "A layer opens at the start ..
   pub first-layer : LayerOpen g source P (stateAt g source P schedule 0)
-  -- .. and at each close that raises d" (§7.2)
+  -- .. and at each close that raises d"
   pub each-layer : (k : ℕ) → k < length schedule
       → (stateAt g source P schedule (suc k) .layer ≡ stateAt g source P schedule k .layer → ⊥)
       → LayerOpen g source P (stateAt g source P schedule (suc k))

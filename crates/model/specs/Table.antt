@@ -120,7 +120,7 @@ endedState s = record { labels = s .labels; workers = s .workers; layer = s .lay
 unfoldable pub closed : State → Bag → State
 closed s bag = cond (isEmpty bag) (endedState s) (raisedState s bag)
 
--- the table: "An event whose condition isn't met changes nothing. The others are effective." (§6.9)
+-- the table: "An event whose condition isn't met changes nothing. The others are effective." (§6.4 to §6.9)
 unfoldable pub act : Graph → State → Event → Option State
 act g s (Work w) = afterMove s w (moveOf g (s .layer) (s .labels) (workerAt (s .workers) w))
 act g s (Split w v) =

@@ -34,7 +34,7 @@ pub record PageOutcome : Type 0 where
   pub bytes : List ℕ
 
 -- the outcome: rows and marks as the checker leaves them, so with the late 20 "as after 10";
--- "No refusal changes a page byte" (§9.1)
+-- "No refusal changes a page byte" (§9.1, §10.4)
 unfoldable pub outcomeOfPage : List ℕ → ℕ → List ℕ → List ℕ → CheckLent → List ℕ → PageOutcome
 outcomeOfPage file source distances parents lent bytes =
     let number = pageAnswer file source distances parents lent (length bytes) in

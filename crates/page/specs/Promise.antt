@@ -19,7 +19,7 @@ pageExit number lent bytes = record { number = number; lent = lent; bytes = byte
 -- a call that answered this number and left the page list so
 pub record OnPaper (file : List ℕ) (source : ℕ) (distances parents : List ℕ)
     (number : ℕ) (bytes : List ℕ) : Type 0 where
-  -- "For a finished result": with 0 the distances and parents are right, by paths
+  -- "For a finished result": with 0 the distances and parents are right, by paths (§9.1)
   pub right : number ≡ success → RightLists file source distances parents
   -- "reading the columns back gives the lists" (§9.4)
   pub read-back : number ≡ success

@@ -1,5 +1,5 @@
 -- The page program's input split into its parts, and the numbers that it gives before it calls for the pages.
--- docs/DECISIONS.md, 79, has the layout: words source, count, then that many distances and that many parents,
+-- The layout (§12.1): words source, count, then that many distances and that many parents,
 -- then the file to the end.
 use mathlib.Core.List.{List, [], _∷_}
 use Prim.Native.Nat.{ℕ, _+_, _*_}

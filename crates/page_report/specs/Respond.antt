@@ -22,7 +22,7 @@ respondRefusals input =
     ownRefusals input
     ++ pageRefusals (fileIn input) (sourceIn input) (distancesIn input) (parentsIn input) programLists outputPlaces
 
--- a refusal is a line with its number (docs/DECISIONS.md, 80) (§12.4)
+-- a refusal is a line with its number (§12.4; docs/DECISIONS.md, 80)
 unfoldable pub numberLine : ℕ → List ℕ
 numberLine number = decimal number ++ (lineFeed ∷ [])
 

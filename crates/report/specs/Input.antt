@@ -22,7 +22,7 @@ programEdges = 2048
 abbrev pub programEvents : ℕ
 programEvents = 8192
 
--- "Its node lists have 4,097 places each."
+-- "Its node lists have 4,097 places each." (§11.3)
 abbrev pub programNodes : ℕ
 programNodes = 4097
 
@@ -63,7 +63,7 @@ ownRefusals input =
     ∷ ltb (length (fileIn input)) 4 gives badLength
     ∷ sizesRefusals (vertexCount (fileIn input)) (edgeCount (fileIn input))
 
--- the lists that the program lends to the search, as long as its own sizes need
+-- the lists that the program lends to the search, as long as its own sizes need (§11.3)
 unfoldable pub programLists : Lent
 programLists = record {
   offsets = replicate (programVertices + 1) 0;

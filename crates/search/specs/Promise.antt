@@ -48,7 +48,7 @@ module _ (file : List ℕ) (source P : ℕ) (schedule : List ℕ) (lent : call.L
     -- "with 21 all of them": 21 only after the whole schedule is played and the search isn't finished (§6.9)
     pub spent : r .number ≡ unfinished → r .used ≡ length schedule
     pub not-finished : r .number ≡ unfinished → play (graphOf file) source P schedule .state .finished ≡ false
-    -- 0 only with a finishing event, the last one used
+    -- 0 only with a finishing event, the last one used (§6.9)
     pub finished : r .number ≡ success → Finisher (graphOf file) source P schedule (r .used)
     -- d is the run's (§6.10)
     pub layer : call.plays (r .number) ≡ true → r .layer ≡ play (graphOf file) source P schedule .state .layer

@@ -69,7 +69,7 @@ checkRefusals file source distances parents lent =
 unfoldable pub checkNumber : List ℕ → ℕ → List ℕ → List ℕ → CheckLent → ℕ
 checkNumber file source distances parents lent = first (checkRefusals file source distances parents lent)
 
--- whether the result was looked at: "Every call that gets past 6 .. writes rows"
+-- whether the result was looked at: "Every call that gets past 6 .. writes rows" (§10.4)
 unfoldable pub judges : ℕ → Bool
 judges number = elem number (success ∷ badResult ∷ [])
 
