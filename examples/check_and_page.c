@@ -14,8 +14,8 @@
 #include <string.h>
 #include "hopmap.h"
 
-#if HOPMAP_VERSION != 1
-#error "written for version 1 of hopmap.h"
+#if HOPMAP_VERSION != 2
+#error "written for version 2 of hopmap.h"
 #endif
 
 /* Devices and links of case A. */

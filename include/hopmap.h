@@ -42,13 +42,13 @@
  * beside the old ones leaves it. CHANGELOG.md says what changed in each. So a caller that was written
  * for an older header can be told apart when it is compiled:
  *
- *     #if HOPMAP_VERSION != 1
- *     #error "written for version 1 of hopmap.h"
+ *     #if HOPMAP_VERSION != 2
+ *     #error "written for version 2 of hopmap.h"
  *     #endif
  *
  * The archive has no version that could be tested: take header and archive from the same tree.
  */
-#define HOPMAP_VERSION 1
+#define HOPMAP_VERSION 2
 
 /* The numbers. */
 #define HOPMAP_SUCCESS 0       /* success */
@@ -143,12 +143,16 @@ size_t hopmap_write(const uint16_t *offsets, size_t offsets_len,
  *                   where no path leads there
  *   parents         written: n places, the device before it on a shortest path, or unset; the
  *                   source's parent is the source
+ *   census          written, with 0 and 21 alike: n places; place h, for h below n, is how many
+ *                   devices have the written distance h, and one that is unset counts nowhere.
+ *                   With any other number the list is left as it is. Long enough for every file:
+ *                       uint16_t census[HOPMAP_MAX_VERTICES] = {0};
  *   left, right,    working room: HOPMAP_NODE_PLACES(P, n) places each, left 0
  *   values
  *   answer          written, whatever the number: the number, events used, effective events and the
  *                   last layer d; with another number than 0 and 21 zeros for these three
  * With 21 the schedule is spent and the search is not finished: the lists are as with 0, but only
- * some distances and parents are written yet.
+ * some distances and parents are written yet, and the census counts those distances.
  * Returns answer[0]; the order is 1 (under 4 bytes), 2, 1 (length), 4, 3, 7, 8, 9, 20, 5, 6, 21.
  */
 size_t hopmap_search(const uint8_t *file, size_t file_len,
@@ -160,6 +164,7 @@ size_t hopmap_search(const uint8_t *file, size_t file_len,
                      uint16_t *marks, size_t marks_len,
                      uint16_t *distances, size_t distances_len,
                      uint16_t *parents, size_t parents_len,
+                     uint16_t *census, size_t census_len,
                      uint16_t *left, size_t left_len,
                      uint16_t *right, size_t right_len,
                      uint16_t *values, size_t values_len,

@@ -117,7 +117,13 @@ pub fn plain_search(query: &Query, lists: &mut Lists) -> Outcome {
 #[inline]
 pub fn search_untold(query: &Query, lists: &mut Lists) -> Outcome {
     let parts = lists.parts();
-    let answer = engine::search(query, parts.rows, parts.labels, parts.nodes);
+    let answer = engine::search(
+        query,
+        parts.rows,
+        parts.labels,
+        parts.histogram,
+        parts.nodes,
+    );
     Outcome {
         number: answer[0] as usize,
         answer,

@@ -2,8 +2,10 @@
 
 use crate::calls::Query;
 use crate::inputs::bytes_of;
+use crate::lists::{Lists, DISTANCES, HISTOGRAM, PARENTS};
 
-/// A search from source 0, its answer, and the labels that it leaves, of an accepted file.
+/// A search from source 0, its answer, and the labels and the census that it leaves, of an accepted
+/// file.
 pub struct Case {
     pub name: &'static str,
     pub file: Vec<u8>,
@@ -11,13 +13,15 @@ pub struct Case {
     pub schedule: Vec<u8>,
     pub answer: [u32; 4],
     pub labels: Vec<[u16; 2]>,
+    pub histogram: Vec<u16>,
 }
 
 const CASE_A: [u8; 25] = [
     0, 0, 0, 0, 0, 0, 0, 0, 0, 192, 72, 0, 8, 0, 8, 0, 8, 8, 0, 0, 8, 192, 0, 0, 192,
 ];
 
-/// A and B: the same but for events 18 and 19, which say who names vertex 3 last.
+/// A and B: the same but for events 18 and 19, which say who names vertex 3 last. Both workers mark
+/// it, and it counts once.
 fn four(name: &'static str, swapped: bool) -> Case {
     let mut schedule = CASE_A.to_vec();
     if swapped {
@@ -30,6 +34,7 @@ fn four(name: &'static str, swapped: bool) -> Case {
         schedule,
         answer: [0, 25, 25, 2],
         labels: vec![[0, 0], [1, 0], [1, 0], [2, if swapped { 2 } else { 1 }]],
+        histogram: vec![1, 2, 1, 0],
     }
 }
 
@@ -42,6 +47,7 @@ fn one(name: &'static str, words: &[u16], number: u32) -> Case {
         schedule: vec![0, 192],
         answer: [number, 0, 0, 0],
         labels: Vec::new(),
+        histogram: Vec::new(),
     }
 }
 
@@ -49,6 +55,7 @@ pub fn bench_cases() -> Vec<Case> {
     let c = || Case {
         answer: [0, 2, 2, 0],
         labels: vec![[0, 0]],
+        histogram: vec![1],
         ..one("C", &[1, 0, 0], 0)
     };
     vec![
@@ -86,13 +93,13 @@ impl Case {
         }
     }
 
-    /// Whether an answer or the labels beside it are not this case's.
-    pub fn wrong(&self, answer: [u32; 4], distances: &[u16], parents: &[u16]) -> bool {
-        let labels = self.labels.iter().enumerate();
+    /// Whether an answer, or the labels or the census beside it, are not this case's.
+    pub fn wrong(&self, answer: [u32; 4], lists: &Lists) -> bool {
+        let mut labels = self.labels.iter().enumerate();
+        let label = |v: usize| [DISTANCES, PARENTS].map(|list| lists.words[list][v]);
         answer != self.answer
-            || labels
-                .into_iter()
-                .any(|(v, &[distance, parent])| (distances[v], parents[v]) != (distance, parent))
+            || labels.any(|(v, &expected)| label(v) != expected)
+            || !lists.words[HISTOGRAM].starts_with(&self.histogram)
     }
 }
 
@@ -100,8 +107,8 @@ impl Case {
 mod tests {
     use super::*;
     use crate::calls::{Call, Library, Plain, Query};
-    use crate::inputs::{file_of, finishing_schedule, random_graph, Random, KINDS};
-    use crate::lists::{ample, Lists, DISTANCES, PARENTS};
+    use crate::inputs::{file_of, finishing_schedule, random_graph, Random, ALL_KINDS};
+    use crate::lists::ample;
     use crate::plain::numbers::UNSET;
     use crate::queue;
 
@@ -110,9 +117,8 @@ mod tests {
         for case in bench_cases() {
             let mut lists = Lists::filled(ample(4, 4, 9), || 77);
             let outcome = Plain.call(Call::Search, &case.query(), &mut lists);
-            let (distances, parents) = (&lists.words[DISTANCES], &lists.words[PARENTS]);
             assert!(
-                !case.wrong(outcome.answer, distances, parents),
+                !case.wrong(outcome.answer, &lists),
                 "case {}: {outcome:?}",
                 case.name
             );
@@ -127,7 +133,7 @@ mod tests {
             let rows = random_graph(&mut random, n, m);
             let file = file_of(&mut random, &rows);
             let (source, workers) = (random.below(n), random.between(1, 8));
-            let kind = random.pick(&KINDS);
+            let kind = random.pick(&ALL_KINDS);
             let schedule = finishing_schedule(&mut random, kind, &file, source, workers);
             let query = Query {
                 file: &file,
@@ -145,6 +151,8 @@ mod tests {
             let parts = plain.parts();
             queue::search(&file, source, parts.rows, parts.labels, &mut vec![0; n]);
             assert_eq!(lists.words[DISTANCES], plain.words[DISTANCES]);
+            let recount = queue::recount(&plain.words[DISTANCES]);
+            assert_eq!(lists.words[HISTOGRAM], recount);
             let far = plain.words[DISTANCES].iter().filter(|&&d| d != UNSET).max();
             assert_eq!(far.map(|&d| u32::from(d)), Some(outcome.answer[3]));
             assert_eq!(Plain.call(Call::Check, &query, &mut lists).number, 0);

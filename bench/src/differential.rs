@@ -1,6 +1,7 @@
 //! The differential test: the proved library through its C interface beside the plain one. Random
 //! cases of every call, with good and damaged inputs; number, answer and every place of every list
-//! must agree, and every number and every list that is too short must have come up.
+//! must agree, and the census with a recount of the distances, in short schedules after each event.
+//! Every number, every list that is too short and a vertex that two workers mark must have come up.
 
 mod cases;
 mod files;
@@ -13,20 +14,23 @@ use cases::{Plan, Trial};
 use hopbench::calls::{Call, Library, Outcome, Plain, Query};
 use hopbench::cases::bench_cases;
 use hopbench::inputs::Random;
-use hopbench::lists::{ample, Lists, BYTES, DISTANCES, MARKS, OFFSETS, PARENTS, TARGETS};
+use hopbench::lists::{
+    ample, Lists, BYTES, DISTANCES, HISTOGRAM, MARKS, OFFSETS, PARENTS, TARGETS,
+};
 use hopbench::plain::file::file_length;
 use hopbench::plain::numbers::{DONE, MOST_EVENTS, SCHEDULE, SHORT, SPENT, UNSET};
 use hopbench::plain::page::page_length;
+use hopbench::queue::recount;
 use tally::Tally;
 
-/// Calls both libraries with equal lists. Leaves what they left, or says where they differ.
-fn side_by_side(
-    call: Call,
-    query: &Query,
-    lists: &mut Lists,
-    tally: &mut Tally,
-) -> Result<Outcome, String> {
+/// The longest schedule that is also played event by event.
+const FEW_EVENTS: usize = 2_000;
+
+/// Calls both libraries with equal lists. Leaves what they left, or says where they differ or what is
+/// wrong with the census.
+fn agreed(call: Call, query: &Query, lists: &mut Lists) -> Result<Outcome, String> {
     let mut theirs = lists.clone();
+    let mut census = lists.words[HISTOGRAM].clone();
     let proved = Proved.call(call, query, lists);
     let plain = Plain.call(call, query, &mut theirs);
     let differ = |what: String| Err(format!("{}: proved and plain differ: {what}", call.name()));
@@ -36,8 +40,31 @@ fn side_by_side(
     if let Some(difference) = lists.difference(&theirs) {
         return differ(format!("number {}, {difference}", proved.number));
     }
-    tally.count(call, proved.number);
+    if let (Call::Search, DONE | SPENT) = (call, proved.number) {
+        let (n, _) = files::sizes(query.file);
+        census[..n].copy_from_slice(&recount(&lists.words[DISTANCES][..n]));
+    }
+    let left = &lists.words[HISTOGRAM];
+    demand(*left == census, || {
+        let number = proved.number;
+        format!(
+            "{}: number {number}, census {left:?}, not {census:?}",
+            call.name()
+        )
+    })?;
     Ok(proved)
+}
+
+/// The same, and counts the number.
+fn side_by_side(
+    call: Call,
+    query: &Query,
+    lists: &mut Lists,
+    tally: &mut Tally,
+) -> Result<Outcome, String> {
+    let outcome = agreed(call, query, lists)?;
+    tally.count(call, outcome.number);
+    Ok(outcome)
 }
 
 /// An error unless this holds.
@@ -54,12 +81,9 @@ fn bench(tally: &mut Tally) -> Result<(), String> {
     for case in bench_cases() {
         let mut lists = Lists::filled(ample(4, 4, 9), || 77);
         let outcome = side_by_side(Call::Search, &case.query(), &mut lists, tally)?;
-        let (distances, parents) = (&lists.words[DISTANCES], &lists.words[PARENTS]);
-        demand(!case.wrong(outcome.answer, distances, parents), || {
-            format!(
-                "case {}: {outcome:?}, {distances:?}, {parents:?}",
-                case.name
-            )
+        demand(!case.wrong(outcome.answer, &lists), || {
+            let left = [DISTANCES, PARENTS, HISTOGRAM].map(|list| &lists.words[list]);
+            format!("case {}: {outcome:?}, {left:?}", case.name)
         })?;
     }
     Ok(())
@@ -133,13 +157,38 @@ fn trial(random: &mut Random, plan: Plan, tally: &mut Tally) -> Result<(), Strin
     }
 }
 
-/// A played search against the queue search; a finished one is checked and laid out too.
+/// A search after each of its events, in lists that a search has left, and leaves so again. A parent
+/// that changes is the work of two workers: both had marked the vertex before they named it, and only
+/// one of them found it unset.
+fn event_by_event(query: &Query, lists: &mut Lists, tally: &mut Tally) -> Result<(), String> {
+    let mut parents = vec![UNSET; lists.words[PARENTS].len()];
+    let mut marked_twice = false;
+    for events in 0..=query.schedule.len() {
+        let so_far = Query {
+            schedule: &query.schedule[..events],
+            ..*query
+        };
+        agreed(Call::Search, &so_far, lists)
+            .map_err(|what| format!("after {events} events: {what}"))?;
+        let mut pairs = parents.iter().zip(&lists.words[PARENTS]);
+        marked_twice |= pairs.any(|(before, after)| *before != UNSET && before != after);
+        parents.clone_from(&lists.words[PARENTS]);
+    }
+    tally.event_by_event(marked_twice);
+    Ok(())
+}
+
+/// A played search against the queue search, and event by event where it is short; a finished one is
+/// checked and laid out too.
 fn searched(
     query: &Query,
     outcome: Outcome,
     mut lists: Lists,
     tally: &mut Tally,
 ) -> Result<(), String> {
+    if query.schedule.len() <= FEW_EVENTS {
+        event_by_event(query, &mut lists, tally)?;
+    }
     let [_, used, effective, layer] = outcome.answer.map(|value| value as usize);
     let (n, m) = files::sizes(query.file);
     let found = labels::right(query.file, query.source);
@@ -218,7 +267,7 @@ fn written(lists: Lists, tally: &mut Tally) -> Result<(), String> {
 }
 
 /// Cases `first` to `first + count - 1` of a seed. From 0 on the fixed cases come before them, and
-/// every number and short list is demanded.
+/// every number, every short list and a vertex marked twice are demanded.
 pub fn differential(count: u64, seed: u64, first: Option<u64>) -> Result<(), String> {
     println!("differential test: {count} cases, seed {seed}");
     let mut tally = Tally::default();

@@ -109,15 +109,21 @@ pub fn bytes_of(words: &[u16]) -> Vec<u8> {
 pub enum Kind {
     Rounds,
     Random,
+    Shared,
 }
 
+/// The kinds that are measured.
 pub const KINDS: [Kind; 2] = [Kind::Rounds, Kind::Random];
+
+/// The kinds that tests draw from.
+pub const ALL_KINDS: [Kind; 3] = [Kind::Rounds, Kind::Random, Kind::Shared];
 
 impl Kind {
     pub fn name(self) -> &'static str {
         match self {
             Kind::Rounds => "rounds",
             Kind::Random => "random",
+            Kind::Shared => "shared",
         }
     }
 }
@@ -127,6 +133,7 @@ pub fn event(random: &mut Random, kind: Kind, workers: usize, place: usize) -> u
     match kind {
         Kind::Rounds => round_event(workers, place),
         Kind::Random => random_event(random, workers),
+        Kind::Shared => shared_event(random, workers, place),
     }
 }
 
@@ -140,10 +147,15 @@ fn round_event(workers: usize, place: usize) -> u8 {
     }
 }
 
+/// A worker besides w, if there are two.
+fn other(random: &mut Random, w: usize, workers: usize) -> usize {
+    (w + random.between(1, workers.max(2) - 1)) % workers
+}
+
 /// Mostly work, some splits, unites and closes.
 fn random_event(random: &mut Random, workers: usize) -> u8 {
     let w = random.below(workers);
-    let v = (w + random.between(1, workers.max(2) - 1)) % workers;
+    let v = other(random, w, workers);
     let event = match random.below(100) {
         0..6 if workers > 1 => 64 + 8 * w + v,
         6..10 if workers > 1 => 128 + 8 * w + v,
@@ -151,6 +163,17 @@ fn random_event(random: &mut Random, workers: usize) -> u8 {
         _ => 8 * w,
     };
     event as u8
+}
+
+/// Full rounds, and before each one a split or a unite by each worker. So several workers have work,
+/// and look at the same time: two of them mark the same vertex more often than in random events.
+fn shared_event(random: &mut Random, workers: usize, place: usize) -> u8 {
+    let w = place % (2 * workers + 1);
+    if workers == 1 || w >= workers {
+        return round_event(workers, w.saturating_sub(workers));
+    }
+    let kind = if random.percent(80) { 64 } else { 128 };
+    (kind + 8 * w + other(random, w, workers)) as u8
 }
 
 /// A schedule that finishes, cut at its finishing event. The file is an accepted one.

@@ -10,13 +10,15 @@ pub const TARGETS: usize = 1;
 pub const MARKS: usize = 2;
 pub const DISTANCES: usize = 3;
 pub const PARENTS: usize = 4;
-pub const LEFT: usize = 5;
-pub const RIGHT: usize = 6;
-pub const VALUES: usize = 7;
+/// The census.
+pub const HISTOGRAM: usize = 5;
+pub const LEFT: usize = 6;
+pub const RIGHT: usize = 7;
+pub const VALUES: usize = 8;
 /// The writer's file or the pages: the only list of bytes.
-pub const BYTES: usize = 8;
+pub const BYTES: usize = 9;
 
-pub const LISTS: usize = 9;
+pub const LISTS: usize = 10;
 
 pub const NAMES: [&str; LISTS] = [
     "offsets",
@@ -24,6 +26,7 @@ pub const NAMES: [&str; LISTS] = [
     "marks",
     "distances",
     "parents",
+    "census",
     "left",
     "right",
     "values",
@@ -41,6 +44,7 @@ pub struct Lists {
 pub struct Parts<'a> {
     pub rows: RowLists<'a>,
     pub labels: LabelLists<'a>,
+    pub histogram: &'a mut [u16],
     pub nodes: NodeLists<'a>,
     pub bytes: &'a mut [u8],
 }
@@ -48,7 +52,7 @@ pub struct Parts<'a> {
 /// What the lists need for a file of n vertices and m edges, P workers and `bytes` bytes.
 pub fn needs(n: usize, m: usize, workers: usize, bytes: usize) -> [usize; LISTS] {
     let nodes = workers * n + 1;
-    [n + 1, m, m, n, n, nodes, nodes, nodes, bytes]
+    [n + 1, m, m, n, n, n, nodes, nodes, nodes, bytes]
 }
 
 /// Enough for every call on such a file.
@@ -75,7 +79,8 @@ impl Lists {
     }
 
     pub fn parts(&mut self) -> Parts<'_> {
-        let [offsets, targets, marks, distances, parents, left, right, values] = &mut self.words;
+        let [offsets, targets, marks, distances, parents, histogram, left, right, values] =
+            &mut self.words;
         Parts {
             rows: RowLists {
                 offsets,
@@ -83,6 +88,7 @@ impl Lists {
                 marks,
             },
             labels: LabelLists { distances, parents },
+            histogram,
             nodes: NodeLists {
                 left,
                 right,

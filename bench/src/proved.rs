@@ -31,6 +31,7 @@ extern "C" {
         marks: *mut u16, marks_len: usize,
         distances: *mut u16, distances_len: usize,
         parents: *mut u16, parents_len: usize,
+        census: *mut u16, census_len: usize,
         left: *mut u16, left_len: usize,
         right: *mut u16, right_len: usize,
         values: *mut u16, values_len: usize,
@@ -111,7 +112,7 @@ fn write(lists: &mut Lists) -> Outcome {
 /// The proved search, called as the plain one is.
 #[rustfmt::skip]
 pub fn search(query: &Query, lists: &mut Lists) -> Outcome {
-    let [offsets, targets, marks, distances, parents, left, right, values] = &mut lists.words;
+    let [offsets, targets, marks, distances, parents, histogram, left, right, values] = &mut lists.words;
     let mut answer = [UNANSWERED; 4];
     // SAFETY: each pointer comes with the length of its own list; the answer has the four places.
     let returned = unsafe {
@@ -125,6 +126,7 @@ pub fn search(query: &Query, lists: &mut Lists) -> Outcome {
             marks.as_mut_ptr(), marks.len(),
             distances.as_mut_ptr(), distances.len(),
             parents.as_mut_ptr(), parents.len(),
+            histogram.as_mut_ptr(), histogram.len(),
             left.as_mut_ptr(), left.len(),
             right.as_mut_ptr(), right.len(),
             values.as_mut_ptr(), values.len(),

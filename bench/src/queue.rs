@@ -1,5 +1,5 @@
-//! A plain queue search without schedule, workers or bags: what the answers are compared with, and
-//! the third engine of the benchmark.
+//! What the answers are compared with: a plain queue search without schedule, workers or bags, which
+//! is the third engine of the benchmark too, and a recount of distances.
 
 use crate::plain::file;
 use crate::plain::numbers::{DONE, UNSET};
@@ -56,4 +56,16 @@ pub fn search_rows(
             }
         }
     }
+}
+
+/// The census of these distances, counted afresh: place h has how many of them are h. A vertex that is
+/// unset has no place.
+pub fn recount(distances: &[u16]) -> Vec<u16> {
+    let mut counts = vec![0; distances.len()];
+    for &distance in distances {
+        if let Some(count) = counts.get_mut(usize::from(distance)) {
+            *count += 1;
+        }
+    }
+    counts
 }

@@ -2,7 +2,7 @@
 //! malformed.
 
 use super::files::Made;
-use hopbench::inputs::{event, finishing_schedule, Kind, Random, KINDS};
+use hopbench::inputs::{event, finishing_schedule, Kind, Random, ALL_KINDS};
 
 /// Full rounds, cut to a length.
 pub fn rounds(workers: usize, length: usize) -> Vec<u8> {
@@ -14,7 +14,7 @@ pub fn rounds(workers: usize, length: usize) -> Vec<u8> {
 
 /// Well-formed events in any order.
 fn well_formed(random: &mut Random, workers: usize, length: usize) -> Vec<u8> {
-    let kind = random.pick(&KINDS);
+    let kind = random.pick(&ALL_KINDS);
     (0..length)
         .map(|place| event(random, kind, workers, place))
         .collect()
@@ -22,7 +22,7 @@ fn well_formed(random: &mut Random, workers: usize, length: usize) -> Vec<u8> {
 
 /// A schedule that finishes, whole, with events behind, or with its end cut off.
 fn finishing(random: &mut Random, made: &Made, source: usize, workers: usize) -> Vec<u8> {
-    let kind = random.pick(&KINDS);
+    let kind = random.pick(&ALL_KINDS);
     let mut schedule = finishing_schedule(random, kind, &made.bytes, source, workers);
     match random.below(4) {
         0 => {

@@ -1,4 +1,5 @@
-//! What came up: how often each call gave each number, and which lists were found too short alone.
+//! What came up: how often each call gave each number, which lists were found too short alone, and
+//! whether two workers marked the same vertex.
 
 use super::lent;
 use hopbench::calls::{Call, CALLS};
@@ -11,6 +12,8 @@ const NUMBERS: usize = 22;
 pub struct Tally {
     numbers: [[usize; NUMBERS]; CALLS.len()],
     short: [[usize; LISTS]; CALLS.len()],
+    event_by_event: usize,
+    marked_twice: usize,
 }
 
 /// The numbers that a call can give.
@@ -34,6 +37,12 @@ impl Tally {
         self.short[call as usize][list] += 1;
     }
 
+    /// A search was played event by event, and whether a vertex was seen to be marked by two workers.
+    pub fn event_by_event(&mut self, marked_twice: bool) {
+        self.event_by_event += 1;
+        self.marked_twice += usize::from(marked_twice);
+    }
+
     pub fn print(&self) {
         println!("how often each call gave each number:");
         for call in CALLS {
@@ -53,6 +62,10 @@ impl Tally {
             }
             println!();
         }
+        println!(
+            "searches played event by event: {}; with a vertex that two workers marked: {}",
+            self.event_by_event, self.marked_twice
+        );
     }
 
     /// An error that names what never came up.
@@ -66,6 +79,9 @@ impl Tally {
             let unseen = lists.filter(|&list| self.short[call as usize][list] == 0);
             missing
                 .extend(unseen.map(|list| format!("{}: {} one short", call.name(), NAMES[list])));
+        }
+        if self.marked_twice == 0 {
+            missing.push("search: a vertex that two workers mark".into());
         }
         if missing.is_empty() {
             return Ok(());

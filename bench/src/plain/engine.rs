@@ -63,6 +63,7 @@ struct Run<'a> {
     targets: &'a [u16],
     distances: &'a mut [u16],
     parents: &'a mut [u16],
+    histogram: &'a mut [u16],
     pool: Pool<'a>,
     crew: [Worker; MOST_WORKERS],
     workers: usize,
@@ -70,12 +71,14 @@ struct Run<'a> {
 }
 
 impl Run<'_> {
-    /// The opening: the source alone is labelled, and alone in worker 0's input bag.
+    /// The opening: the source alone is labelled and counted, and alone in worker 0's input bag.
     fn open(&mut self, source: usize) {
         self.distances.fill(UNSET);
         self.parents.fill(UNSET);
         self.distances[source] = 0;
         self.parents[source] = source as u16;
+        self.histogram.fill(0);
+        self.histogram[0] = 1;
         self.crew[0].input.insert(source as u16, &mut self.pool);
     }
 
@@ -127,7 +130,12 @@ impl Run<'_> {
                 }
             }
             Phase::InHand(edge, target) => {
-                self.distances[usize::from(target)] = self.layer + 1;
+                let farther = self.layer + 1;
+                let distance = &mut self.distances[usize::from(target)];
+                if *distance == UNSET {
+                    self.histogram[usize::from(farther)] += 1;
+                }
+                *distance = farther;
                 Phase::Marked(edge, target)
             }
             Phase::Marked(edge, target) => {
@@ -207,8 +215,14 @@ pub struct Query<'a> {
 }
 
 /// The call: number, events used, effective events, layer.
-pub fn search(query: &Query, rows: RowLists, labels: LabelLists, nodes: NodeLists) -> [u32; 4] {
-    match run(query, rows, labels, nodes) {
+pub fn search(
+    query: &Query,
+    rows: RowLists,
+    labels: LabelLists,
+    histogram: &mut [u16],
+    nodes: NodeLists,
+) -> [u32; 4] {
+    match run(query, rows, labels, histogram, nodes) {
         Ok(answer) => answer,
         Err(number) => [number as u32, 0, 0, 0],
     }
@@ -218,12 +232,13 @@ fn run(
     query: &Query,
     mut rows: RowLists,
     labels: LabelLists,
+    histogram: &mut [u16],
     nodes: NodeLists,
 ) -> Result<[u32; 4], usize> {
     let file = accept(query)?;
     let (n, m) = (file.n(), file.m());
     let need = query.workers * n + 1;
-    if rows.short(n, m) || labels_short(&labels, n) || nodes_short(&nodes, need) {
+    if rows.short(n, m) || labels_short(&labels, histogram, n) || nodes_short(&nodes, need) {
         return Err(SHORT);
     }
     file.unchain(&mut rows)?;
@@ -232,6 +247,7 @@ fn run(
         targets: &rows.targets[..m],
         distances: &mut labels.distances[..n],
         parents: &mut labels.parents[..n],
+        histogram: &mut histogram[..n],
         pool: Pool::new(NodeLists {
             left: &mut nodes.left[..need],
             right: &mut nodes.right[..need],
@@ -262,8 +278,8 @@ fn accept<'a>(query: &Query<'a>) -> Result<File<'a>, usize> {
     Ok(file)
 }
 
-fn labels_short(labels: &LabelLists, n: usize) -> bool {
-    labels.distances.len() < n || labels.parents.len() < n
+fn labels_short(labels: &LabelLists, histogram: &[u16], n: usize) -> bool {
+    labels.distances.len() < n || labels.parents.len() < n || histogram.len() < n
 }
 
 fn nodes_short(nodes: &NodeLists, need: usize) -> bool {

@@ -94,6 +94,7 @@ pub extern "C" fn hopmap_search(
     marks: &mut [u16],
     distances: &mut [u16],
     parents: &mut [u16],
+    census: &mut [u16],
     left: &mut [u16],
     right: &mut [u16],
     values: &mut [u16],
@@ -102,18 +103,18 @@ pub extern "C" fn hopmap_search(
     ensures { λ _. ⌜
         searchExit (answerIn (now (answer .exit)))
         (search·lentLists (now (offsets .exit)) (now (targets .exit)) (now (marks .exit)) (now (distances .exit))
-        (now (parents .exit)) (now (left .exit)) (now (right .exit)) (now (values .exit)))
+        (now (parents .exit)) (now (census .exit)) (now (left .exit)) (now (right .exit)) (now (values .exit)))
         ≡ outcomeOfSearch (now (file .entry)) source workers (now (schedule .entry))
         (search·lentLists (now (offsets .entry)) (now (targets .entry)) (now (marks .entry)) (now (distances .entry))
-        (now (parents .entry)) (now (left .entry)) (now (right .entry)) (now (values .entry)))
+        (now (parents .entry)) (now (census .entry)) (now (left .entry)) (now (right .entry)) (now (values .entry)))
         ⌝ }
     ensures { λ _. ⌜
         Kept (now (file .entry)) source workers (now (schedule .entry))
         (search·lentLists (now (offsets .entry)) (now (targets .entry)) (now (marks .entry)) (now (distances .entry))
-        (now (parents .entry)) (now (left .entry)) (now (right .entry)) (now (values .entry)))
+        (now (parents .entry)) (now (census .entry)) (now (left .entry)) (now (right .entry)) (now (values .entry)))
         (answerIn (now (answer .exit)))
         (search·lentLists (now (offsets .exit)) (now (targets .exit)) (now (marks .exit)) (now (distances .exit))
-        (now (parents .exit)) (now (left .exit)) (now (right .exit)) (now (values .exit)))
+        (now (parents .exit)) (now (census .exit)) (now (left .exit)) (now (right .exit)) (now (values .exit)))
         ⌝ }
     ensures { λ r. ⌜ r ≡ answerIn (now (answer .exit)) .number ⌝ }
 {
@@ -127,6 +128,7 @@ pub extern "C" fn hopmap_search(
         marks,
         distances,
         parents,
+        census,
         left,
         right,
         values,

@@ -1,21 +1,7 @@
 // Graphs of a plan: drawn ones, and paths.
 use crate::plans::Plan;
+use searchkit::paths::line;
 use testkit::sample;
-use testkit::sample::after;
-use testkit::words::put;
-
-// A path of this many edges, from vertex 0 on: its edges, and the rows up to its end.
-fn line(edges: u16, sources: &mut [u16], row_targets: &mut [u16], rows: &mut [u16]) {
-    let mut edge: u16 = 0;
-    while edge < edges {
-        let next = after(edge);
-        put(sources, edge, edge);
-        put(row_targets, edge, next);
-        put(rows, next, next);
-        put(rows, after(next), next);
-        edge += 1;
-    }
-}
 
 // Draws a graph and makes a file of it; a path of this many edges takes the place of its first ones.
 // `order` is working room.

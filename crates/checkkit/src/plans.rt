@@ -73,6 +73,7 @@ pub fn lent(plan: Plan, combination: u16) -> Lengths {
         marks: length(need.marks, combination / 9 % 3),
         distances: length(need.distances, combination / 27 % 3),
         parents: length(need.parents, combination / 81 % 3),
+        histogram: 0,
         left: 0,
         right: 0,
         values: 0,

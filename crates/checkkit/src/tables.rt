@@ -175,6 +175,7 @@ fn lent(short: u16) -> Lengths {
         marks: length(need.marks, 2, short),
         distances: length(need.distances, 3, short),
         parents: length(need.parents, 4, short),
+        histogram: 0,
         left: 0,
         right: 0,
         values: 0,

@@ -28,6 +28,7 @@ use Rattle.schedule.specs.declared.Event.the-variants.{Close}
 use Rattle.model.specs.State as model
 use Rattle.model.specs.Table.{allIdle, unitedOutputs, handedIn, raisedState, endedState, closed, act}
 use Rattle.model.specs.Play.{Run, playFrom, openingRun, play}
+use Rattle.model.specs.Histogram.{recount}
 use Rattle.model.specs.Words.{wordOf, labelsOf}
 use Rattle.model.proofs.WordFacts.{words-again}
 use Rattle.model.proofs.Workers.{idle-each}
@@ -44,12 +45,13 @@ use Rattle.engine.specs.Runs.{answerOf, Ran}
 use Rattle.engine.proofs.PlayingFacts.{Given, graph, crew, Going, Turn, now-state, enough, even, held-inputs, held-outputs}
 use Rattle.engine.proofs.PlayingFacts.{shown-phases, some-worker, few-workers, orElse, next-run, play-on, unmet-on}
 
--- the answer and the labels of a run that is known
-ran-as : {r q : Run} {distances parents : List ℕ} {answer : Answer} {number : ℕ} → r ≡ q → answer ≡ answerOf number (q .used) (q .effective) (q .state .layer)
+-- the answer, the labels and the counts of a run that is known
+ran-as : {r q : Run} {distances parents histogram : List ℕ} {answer : Answer} {number : ℕ} → r ≡ q → answer ≡ answerOf number (q .used) (q .effective) (q .state .layer)
     → number ≡ cond (q .state .finished) success unfinished
-    → distances ≡ map wordOf (q .state .labels .distances) → parents ≡ map wordOf (q .state .labels .parents) → Ran r distances parents answer
-ran-as {distances = distances} {parents = parents} {answer = answer} same told number held named =
-    subst (λ (x : Run). Ran x distances parents answer) (sym same) (record {
+    → distances ≡ map wordOf (q .state .labels .distances) → parents ≡ map wordOf (q .state .labels .parents)
+    → histogram ≡ recount (q .state .labels .distances) → Ran r distances parents histogram answer
+ran-as {distances = distances} {parents = parents} {histogram = histogram} {answer = answer} same told number held named counted =
+    subst (λ (x : Run). Ran x distances parents histogram answer) (sym same) (record {
       told = record {
         number = ap (λ (a : Answer). a .number) told ∙ number;
         used = ap (λ (a : Answer). a .used) told;
@@ -58,22 +60,23 @@ ran-as {distances = distances} {parents = parents} {answer = answer} same told n
       };
       distances = held;
       parents = named;
+      histogram = counted;
     })
 
-module _ {g : Given} {distances parents left right values : List ℕ} {inputs outputs : List declared.Bag} {phases : List Phase}
+module _ {g : Given} {distances parents histogram left right values : List ℕ} {inputs outputs : List declared.Bag} {phases : List Phase}
     {pending found used effective layer : ℕ} where
   -- the schedule is spent
-  pub spent-ran : Going g distances parents left right values inputs outputs phases pending found used effective layer → length (g .schedule) ≤ used
+  pub spent-ran : Going g distances parents histogram left right values inputs outputs phases pending found used effective layer → length (g .schedule) ≤ used
       → {answer : Answer} → answer ≡ answerOf unfinished used effective layer
-      → Ran (play (graph g) (g .source) (g .workers) (g .schedule)) distances parents answer
+      → Ran (play (graph g) (g .source) (g .workers) (g .schedule)) distances parents histogram answer
   unfolding stateOf labelsOf
   spent-ran at over told =
       ran-as (ap (play (graph g) (g .source) (g .workers)) (sym (take-all used (g .schedule) over)) ∙ at .same) told refl (sym (words-again distances))
-      (sym (words-again parents))
+      (sym (words-again parents)) (at .census)
 
-  module _ (turn : Turn g distances parents left right values inputs outputs phases pending found used effective layer Close) where
+  module _ (turn : Turn g distances parents histogram left right values inputs outputs phases pending found used effective layer Close) where
     -- what holds before the byte
-    abbrev at : Going g distances parents left right values inputs outputs phases pending found used effective layer
+    abbrev at : Going g distances parents histogram left right values inputs outputs phases pending found used effective layer
     at = turn .going
 
     -- the workers
@@ -81,7 +84,7 @@ module _ {g : Given} {distances parents left right values : List ℕ} {inputs ou
     workers = crew g left right values inputs outputs phases
 
     -- not all are idle
-    close-unmet : allIdle workers ≡ false → Going g distances parents left right values inputs outputs phases pending found (used + 1) effective layer
+    close-unmet : allIdle workers ≡ false → Going g distances parents histogram left right values inputs outputs phases pending found (used + 1) effective layer
     unfolding act stateOf
     close-unmet some-busy = unmet-on turn (ap (λ (met : Bool). cond met (some (closed (now-state at) (unitedOutputs workers))) none) some-busy)
 
@@ -99,7 +102,7 @@ module _ {g : Given} {distances parents left right values : List ℕ} {inputs ou
         ∙ ap (λ (k : ℕ). eqb k 0) (sym (at .waiting))
 
     -- some is
-    pub pending-on : (pending ≡ 0 → ⊥) → Going g distances parents left right values inputs outputs phases pending found (used + 1) effective layer
+    pub pending-on : (pending ≡ 0 → ⊥) → Going g distances parents histogram left right values inputs outputs phases pending found (used + 1) effective layer
     pending-on left-over = close-unmet (idle-told ∙ ne-eqb pending 0 left-over)
 
     -- none is
@@ -133,7 +136,7 @@ module _ {g : Given} {distances parents left right values : List ℕ} {inputs ou
 
       -- nothing was found: the search is finished, and the rest of the schedule isn't used
       pub finished-ran : found ≡ 0 → {answer : Answer} → answer ≡ answerOf success (used + 1) (effective + 1) layer
-          → Ran (play (graph g) (g .source) (g .workers) (g .schedule)) distances parents answer
+          → Ran (play (graph g) (g .source) (g .workers) (g .schedule)) distances parents histogram answer
       unfolding play orElse stateOf labelsOf closed
       finished-ran over told =
           let rest = drop (used + 1) (g .schedule) in
@@ -147,7 +150,7 @@ module _ {g : Given} {distances parents left right values : List ℕ} {inputs ou
           ∙ play-append (graph g) (openingRun (graph g) (g .source) (g .workers)) (take (used + 1) (g .schedule)) rest
           ∙ ap (λ (r : Run). playFrom (graph g) r rest) (rw ended at (next-run turn))
           ∙ play-finished (graph g) last rest refl)
-          told refl (sym (words-again distances)) (sym (words-again parents))
+          told refl (sym (words-again distances)) (sym (words-again parents)) (at .census)
 
       -- what gathering takes for granted
       pub gather-able : (g .workers ≤ maxWorkers) × Pooled left right (getD inputs 0 pastBag ∷ take (g .workers) outputs)
@@ -169,7 +172,7 @@ module _ {g : Given} {distances parents left right values : List ℕ} {inputs ou
       pub opened-on : (found ≡ 0 → ⊥) → {left′ right′ : List ℕ} {b bare-one : declared.Bag} {inputs′ outputs′ : List declared.Bag} {phases′ : List Phase}
           → Gathered (getD inputs 0 pastBag) (take (g .workers) outputs) left right left′ right′ b
           → inputs′ ≡ firstOfEight b → bare-one ≡ newBag → outputs′ ≡ firstOfEight bare-one → phases′ ≡ allFree
-          → Going g distances parents left′ right′ values inputs′ outputs′ phases′ found 0 (used + 1) (effective + 1) (layer + 1)
+          → Going g distances parents histogram left′ right′ values inputs′ outputs′ phases′ found 0 (used + 1) (effective + 1) (layer + 1)
       unfolding stateOf closed
       opened-on some-found {left′} {right′} {b} gathered first new others free =
           rw (first, others, new, free)
@@ -184,6 +187,7 @@ module _ {g : Given} {distances parents left right values : List ℕ} {inputs ou
             outputs-long = refl;
             phases-long = refl;
           })
+          (at .census)
           (moved-again (gathered-moved (enough at) (some-worker at) values (at .pool) all-bare gathered)
           (opened-moved (g .workers) (some-worker at) (few-workers at) (gathered-pooled .formed .0)))
           (λ w h. rw (opened-free w) tt)

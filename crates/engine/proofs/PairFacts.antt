@@ -34,10 +34,10 @@ exchanged-size : (bags : List Bag) (w v : ℕ) {a b : Bag} (first second : Bag) 
 exchanged-size bags w v first second w-there v-there apart at-w at-v same =
     omega (arith, sum-two size bags w v first second emptyBag w-there v-there apart, ap size at-w, ap size at-v)
 
-module _ {g : Given} {distances parents left right values : List ℕ} {inputs outputs : List declared.Bag} {phases : List Phase}
+module _ {g : Given} {distances parents histogram left right values : List ℕ} {inputs outputs : List declared.Bag} {phases : List Phase}
     {pending found used effective layer : ℕ} where
   -- the run goes on with the workers that the table has, if the bags have as many numbers as before
-  exchange-on : {e : Event} (turn : Turn g distances parents left right values inputs outputs phases pending found used effective layer e)
+  exchange-on : {e : Event} (turn : Turn g distances parents histogram left right values inputs outputs phases pending found used effective layer e)
       {workers : List model.Worker} {left′ right′ : List ℕ} {inputs′ outputs′ : List declared.Bag}
       → act (graph g) (now-state (turn .going)) e ≡ some (replaceWorkers (now-state (turn .going)) workers)
       → crew g left′ right′ values inputs′ outputs′ phases ≡ workers
@@ -45,7 +45,7 @@ module _ {g : Given} {distances parents left right values : List ℕ} {inputs ou
       → length inputs′ ≡ length inputs → length outputs′ ≡ length outputs
       → sumOf size (map (heldBy left′ right′ values) (take (g .workers) inputs′)) ≡ sumOf size (held-inputs (turn .going))
       → sumOf size (map (heldBy left′ right′ values) (take (g .workers) outputs′)) ≡ sumOf size (held-outputs (turn .going))
-      → Going g distances parents left′ right′ values inputs′ outputs′ phases pending found (used + 1) (effective + 1) layer
+      → Going g distances parents histogram left′ right′ values inputs′ outputs′ phases pending found (used + 1) (effective + 1) layer
   unfolding stateOf
   exchange-on turn made crew′ moved same-inputs same-outputs inputs-size outputs-size =
       let now = turn .going in
@@ -60,13 +60,13 @@ module _ {g : Given} {distances parents left right values : List ℕ} {inputs ou
         outputs-long = same-outputs ∙ now .long .outputs-long;
         phases-long = now .long .phases-long;
       })
-      moved (now .in-rows) (omega (arith, now .waiting, inputs-size)) (now .stowed ∙ sym outputs-size) made (ap (replaceWorkers (now-state now)) crew′)
+      (now .census) moved (now .in-rows) (omega (arith, now .waiting, inputs-size)) (now .stowed ∙ sym outputs-size) made (ap (replaceWorkers (now-state now)) crew′)
 
   -- Kind 1.
 
-  module _ {w v : ℕ} (turn : Turn g distances parents left right values inputs outputs phases pending found used effective layer (Split w v)) where
+  module _ {w v : ℕ} (turn : Turn g distances parents histogram left right values inputs outputs phases pending found used effective layer (Split w v)) where
     -- what holds before the byte
-    abbrev now : Going g distances parents left right values inputs outputs phases pending found used effective layer
+    abbrev now : Going g distances parents histogram left right values inputs outputs phases pending found used effective layer
     now = turn .going
 
     -- the two workers are two of eight
@@ -104,7 +104,7 @@ module _ {g : Given} {distances parents left right values : List ℕ} {inputs ou
       -- it is met: the run goes on
       pub split-on : met ≡ true → {left′ right′ : List ℕ} {kept given : declared.Bag}
           → SplitInto left right (getD inputs v pastBag) left′ right′ kept given
-          → Going g distances parents left′ right′ values (set (set inputs v kept) w given) outputs phases pending found (used + 1) (effective + 1) layer
+          → Going g distances parents histogram left′ right′ values (set (set inputs v kept) w given) outputs phases pending found (used + 1) (effective + 1) layer
       unfolding stateOf
       split-on is {left′} {right′} {kept} {given} made =
           let bare : isEmpty taking ≡ true = and-eq-true-iff _ _ .0 (sym (told left right values both-inputs) ∙ is) .0 in
@@ -121,14 +121,14 @@ module _ {g : Given} {distances parents left right values : List ℕ} {inputs ou
           (ap (sumOf size) (bags .outputs-held))
 
       -- it isn't: the run goes on as it is
-      pub split-unmet-on : met ≡ false → Going g distances parents left right values inputs outputs phases pending found (used + 1) effective layer
+      pub split-unmet-on : met ≡ false → Going g distances parents histogram left right values inputs outputs phases pending found (used + 1) effective layer
       split-unmet-on unmet = unmet-on turn (rw unmet at split-told)
 
   -- Kind 2.
 
-  module _ {w v : ℕ} (turn : Turn g distances parents left right values inputs outputs phases pending found used effective layer (Unite w v)) where
+  module _ {w v : ℕ} (turn : Turn g distances parents histogram left right values inputs outputs phases pending found used effective layer (Unite w v)) where
     -- what holds before the byte
-    abbrev here : Going g distances parents left right values inputs outputs phases pending found used effective layer
+    abbrev here : Going g distances parents histogram left right values inputs outputs phases pending found used effective layer
     here = turn .going
 
     -- the two workers are two of eight
@@ -163,7 +163,7 @@ module _ {g : Given} {distances parents left right values : List ℕ} {inputs ou
       -- it is met: the run goes on
       pub unite-on : met ≡ true → {left′ right′ : List ℕ} {united emptied : declared.Bag}
           → United left right (getD outputs v pastBag) (getD outputs w pastBag) left′ right′ united → emptied ≡ newBag
-          → Going g distances parents left′ right′ values inputs (set (set outputs v united) w emptied) phases pending found (used + 1) (effective + 1) layer
+          → Going g distances parents histogram left′ right′ values inputs (set (set outputs v united) w emptied) phases pending found (used + 1) (effective + 1) layer
       unfolding stateOf
       unite-on is {left′} {right′} {united} made new =
           let bags = outputs-after (enough here) (here .pool) w v (staffed turn .0) (staffed turn .1) (staffed turn .2) values (made .moved) in
@@ -178,5 +178,5 @@ module _ {g : Given} {distances parents left right values : List ℕ} {inputs ou
           (output-shown here w (staffed turn .0)) (output-shown here v (staffed turn .1)) (unite-size handed had)))
 
       -- it isn't: the run goes on as it is
-      pub unite-unmet-on : met ≡ false → Going g distances parents left right values inputs outputs phases pending found (used + 1) effective layer
+      pub unite-unmet-on : met ≡ false → Going g distances parents histogram left right values inputs outputs phases pending found (used + 1) effective layer
       unite-unmet-on unmet = unmet-on turn (rw unmet at unite-told)

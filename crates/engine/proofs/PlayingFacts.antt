@@ -3,7 +3,7 @@
 use mathlib.Core.Path.{_≡_, refl, sym, ap, ap₂, subst, _∙_}
 use mathlib.Core.List.{List, map}
 use mathlib.Core.Option.{Option, none, some}
-use Prim.Native.Nat.{ℕ, _+_, _*_, _≤_, _<_}
+use Prim.Native.Nat.{ℕ, suc, _+_, _*_, _≤_, _<_}
 use native.Mathlib.Numerals.{add-one}
 use native.Mathlib.Nat.{add-zero, mul-le-mul, le-pred-of-lt}
 use mir.Syntax.{w64}
@@ -31,7 +31,11 @@ use Rattle.model.specs.State as model
 use Rattle.model.specs.Table.{act}
 use Rattle.model.specs.Play.{Run, tally, step, play, stateAt}
 use Rattle.model.specs.Call.{nodePlaces}
+use Rattle.model.specs.Paths.{distanceOf}
+use Rattle.model.specs.Words.{optionOf}
+use Rattle.model.specs.Histogram.{recount}
 use Rattle.model.specs.Demand.{Accepted, Fitting}
+use Rattle.model.proofs.HistogramFacts.{recount-long}
 use Rattle.model.proofs.Theorem.{demand-holds}
 use Rattle.model.proofs.Used.{play-more}
 use Rattle.workers.specs.declared.Phase.{Phase}
@@ -92,7 +96,7 @@ pub record Long (g : Given) (distances parents left right values : List ℕ) (in
   pub phases-long : length phases ≡ maxWorkers
 
 -- the engine's values before a byte are those of the model's run over the bytes so far, and its lists are in order
-pub record Going (g : Given) (distances parents left right values : List ℕ) (inputs outputs : List declared.Bag) (phases : List Phase)
+pub record Going (g : Given) (distances parents histogram left right values : List ℕ) (inputs outputs : List declared.Bag) (phases : List Phase)
     (pending found used effective layer : ℕ) : Type 0 where
   pub ready : Ready g
   pub long : Long g distances parents left right values inputs outputs phases
@@ -103,20 +107,22 @@ pub record Going (g : Given) (distances parents left right values : List ℕ) (i
   pub pool : Pooled left right (bagsOf (g .workers) inputs outputs)
   pub whole : weighNodes one left right (bagsOf (g .workers) inputs outputs) + weighFree one left ≡ g .workers * g .vertices
   pub in-rows : (w : ℕ) → w < g .workers → InRows (g .offsets) (g .vertices) (getD phases w Free)
+  -- the counts are a recount of the distances
+  pub census : histogram ≡ recount (map optionOf distances)
   -- so many numbers are in the input bags, and workers hold a vertex
   pub waiting : pending ≡ sumOf size (map (heldBy left right values) (take (g .workers) inputs)) + sumOf heldOf (take (g .workers) phases)
   -- so many numbers are in the output bags
   pub stowed : found ≡ sumOf size (map (heldBy left right values) (take (g .workers) outputs))
 
 -- and the next byte says e
-pub record Turn (g : Given) (distances parents left right values : List ℕ) (inputs outputs : List declared.Bag) (phases : List Phase)
+pub record Turn (g : Given) (distances parents histogram left right values : List ℕ) (inputs outputs : List declared.Bag) (phases : List Phase)
     (pending found used effective layer : ℕ) (e : Event) : Type 0 where
-  pub going : Going g distances parents left right values inputs outputs phases pending found used effective layer
+  pub going : Going g distances parents histogram left right values inputs outputs phases pending found used effective layer
   pub below : used < length (g .schedule)
   pub event : eventOf (getD (g .schedule) used 0) ≡ e
 
-module _ {g : Given} {distances parents left right values : List ℕ} {inputs outputs : List declared.Bag} {phases : List Phase} {pending found used effective layer : ℕ} where
-  module _ (at : Going g distances parents left right values inputs outputs phases pending found used effective layer) where
+module _ {g : Given} {distances parents histogram left right values : List ℕ} {inputs outputs : List declared.Bag} {phases : List Phase} {pending found used effective layer : ℕ} where
+  module _ (at : Going g distances parents histogram left right values inputs outputs phases pending found used effective layer) where
     -- the number of workers
     abbrev pub P : ℕ
     P = g .workers
@@ -192,6 +198,10 @@ module _ {g : Given} {distances parents left right values : List ℕ} {inputs ou
     unfolding stateAt
     now-fits = subst (λ (r : Run). Fitting (graph g) P (r .state)) (at .same) (demand-holds (at .ready .accepted) .fitting used)
 
+    -- there are n counts
+    pub counts-long : length histogram ≡ g .vertices
+    counts-long = ap length (at .census) ∙ recount-long (map optionOf distances) ∙ length-map distances optionOf ∙ at .long .distances-long
+
     -- the layer is below n
     pub layer-low : layer < g .vertices
     unfolding stateOf
@@ -205,9 +215,9 @@ module _ {g : Given} {distances parents left right values : List ℕ} {inputs ou
     pub used-fits : used < length (g .schedule) → used + 1 < 18446744073709551616
     used-fits below = omega (arith, at .ready .few-events)
 
-  module _ {e : Event} (turn : Turn g distances parents left right values inputs outputs phases pending found used effective layer e) where
+  module _ {e : Event} (turn : Turn g distances parents histogram left right values inputs outputs phases pending found used effective layer e) where
     -- what holds before the byte
-    abbrev at : Going g distances parents left right values inputs outputs phases pending found used effective layer
+    abbrev at : Going g distances parents histogram left right values inputs outputs phases pending found used effective layer
     at = turn .going
 
     -- the run so far
@@ -243,6 +253,20 @@ module _ {g : Given} {distances parents left right values : List ℕ} {inputs ou
     unfolding stateAt
     next-fits = subst (λ (r : Run). Fitting (graph g) (g .workers) (r .state)) next-run (demand-holds (at .ready .accepted) .fitting (used + 1))
 
+    -- and keeps every distance that is set
+    pub next-stays : (v k : ℕ) → distanceOf (now-state at .labels) v ≡ some k
+        → distanceOf (orElse (act (graph g) (now-state at) e) (now-state at) .labels) v ≡ some k
+    unfolding stateAt
+    next-stays v k set =
+        let Same : Run → Type 0 = λ r. distanceOf (r .state .labels) v ≡ some k in
+        let after = demand-holds (at .ready .accepted) .stays used v k (turn .below) (subst Same (sym (at .same)) set) in
+        subst Same (sym step-again ∙ next-run) after
+      where
+        -- the same number of bytes
+        step-again : play (graph g) (g .source) (g .workers) (take (used + 1) (g .schedule))
+            ≡ play (graph g) (g .source) (g .workers) (take (suc used) (g .schedule))
+        step-again = ap (λ (k : ℕ). play (graph g) (g .source) (g .workers) (take k (g .schedule))) (add-one used)
+
     -- it is counted in a word if it is effective
     pub effective-fits : effective + 1 < 18446744073709551616
     effective-fits = omega (arith, at .ready .few-events, turn .below, at .counted)
@@ -253,18 +277,19 @@ module _ {g : Given} {distances parents left right values : List ℕ} {inputs ou
         (rw (turn .event) at (stray-at (g .workers) used (g .schedule) (at .ready .accepted .formed) (turn .below)))
 
     -- after it the engine is where the model is, if the table has a state for it
-    pub play-on : {distances′ parents′ left′ right′ values′ : List ℕ} {inputs′ outputs′ : List declared.Bag} {phases′ : List Phase} {pending′ found′ layer′ : ℕ}
+    pub play-on : {distances′ parents′ histogram′ left′ right′ values′ : List ℕ} {inputs′ outputs′ : List declared.Bag} {phases′ : List Phase} {pending′ found′ layer′ : ℕ}
         {after : model.State}
         → Long g distances′ parents′ left′ right′ values′ inputs′ outputs′ phases′
+        → histogram′ ≡ recount (map optionOf distances′)
         → Moved left right (bagsOf (g .workers) inputs outputs) left′ right′ (bagsOf (g .workers) inputs′ outputs′)
         → ((w : ℕ) → w < g .workers → InRows (g .offsets) (g .vertices) (getD phases′ w Free))
         → pending′ ≡ sumOf size (map (heldBy left′ right′ values′) (take (g .workers) inputs′)) + sumOf heldOf (take (g .workers) phases′)
         → found′ ≡ sumOf size (map (heldBy left′ right′ values′) (take (g .workers) outputs′))
         → act (graph g) (now-state at) e ≡ some after
         → stateOf distances′ parents′ (crew g left′ right′ values′ inputs′ outputs′ phases′) layer′ ≡ after
-        → Going g distances′ parents′ left′ right′ values′ inputs′ outputs′ phases′ pending′ found′ (used + 1) (effective + 1) layer′
+        → Going g distances′ parents′ histogram′ left′ right′ values′ inputs′ outputs′ phases′ pending′ found′ (used + 1) (effective + 1) layer′
     unfolding orElse
-    play-on long moved in-rows waiting stowed made same = record {
+    play-on long census moved in-rows waiting stowed made same = record {
       ready = at .ready;
       long = long;
       within = omega (arith, turn .below);
@@ -273,13 +298,14 @@ module _ {g : Given} {distances parents left right values : List ℕ} {inputs ou
       pool = moved-pool (at .pool) moved;
       whole = moved .nodes one ∙ at .whole;
       in-rows = in-rows;
+      census = census;
       waiting = waiting;
       stowed = stowed;
     }
 
     -- after one whose condition isn't met it is where it was
     pub unmet-on : act (graph g) (now-state at) e ≡ none
-        → Going g distances parents left right values inputs outputs phases pending found (used + 1) effective layer
+        → Going g distances parents histogram left right values inputs outputs phases pending found (used + 1) effective layer
     unfolding orElse
     unmet-on unmet = record {
       ready = at .ready;
@@ -290,21 +316,22 @@ module _ {g : Given} {distances parents left right values : List ℕ} {inputs ou
       pool = at .pool;
       whole = at .whole;
       in-rows = at .in-rows;
+      census = at .census;
       waiting = at .waiting;
       stowed = at .stowed;
     }
 
   -- a byte of no form
-  pub malformed-on : Turn g distances parents left right values inputs outputs phases pending found used effective layer Malformed
-      → Going g distances parents left right values inputs outputs phases pending found (used + 1) effective layer
+  pub malformed-on : Turn g distances parents histogram left right values inputs outputs phases pending found used effective layer Malformed
+      → Going g distances parents histogram left right values inputs outputs phases pending found (used + 1) effective layer
   unfolding act
   malformed-on turn = unmet-on turn refl
 
 -- a turn, by what was decoded
-pub turn-of : {g : Given} {distances parents left right values : List ℕ} {inputs outputs : List declared.Bag} {phases : List Phase}
-    {pending found used effective layer : ℕ} {said e : Event} → Going g distances parents left right values inputs outputs phases pending found used effective layer
+pub turn-of : {g : Given} {distances parents histogram left right values : List ℕ} {inputs outputs : List declared.Bag} {phases : List Phase}
+    {pending found used effective layer : ℕ} {said e : Event} → Going g distances parents histogram left right values inputs outputs phases pending found used effective layer
     → used < length (g .schedule) → said ≡ eventOf (getD (g .schedule) used 0) → said ≡ e
-    → Turn g distances parents left right values inputs outputs phases pending found used effective layer e
+    → Turn g distances parents histogram left right values inputs outputs phases pending found used effective layer e
 turn-of going below decoded told = record { going = going; below = below; event = sym decoded ∙ told }
 
 -- a place of eight, as bytes of so many each

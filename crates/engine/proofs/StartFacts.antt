@@ -43,20 +43,21 @@ givenBy source workers schedule offsets targets distances left right values = re
 }
 
 -- the lists keep their lengths
-pub record SameLengths (distances parents left right values distances′ parents′ left′ right′ values′ : List ℕ) : Type 0 where
+pub record SameLengths (distances parents histogram left right values distances′ parents′ histogram′ left′ right′ values′ : List ℕ) : Type 0 where
   pub of-distances : length distances′ ≡ length distances
   pub of-parents : length parents′ ≡ length parents
+  pub of-histogram : length histogram′ ≡ length histogram
   pub of-left : length left′ ≡ length left
   pub of-right : length right′ ≡ length right
   pub of-values : length values′ ≡ length values
 
-module _ {source P : ℕ} {schedule offsets targets distances parents left right values : List ℕ}
-    (runnable : Runnable source P schedule offsets targets distances parents left right values) where
+module _ {source P : ℕ} {schedule offsets targets distances parents histogram left right values : List ℕ}
+    (runnable : Runnable source P schedule offsets targets distances parents histogram left right values) where
   -- the source is a vertex
   pub source-there : source < length distances
   source-there = omega (arith, runnable .accepted .source-below, runnable .rows .count)
 
-  module _ {distances′ parents′ left′ right′ values′ : List ℕ} (same : SameLengths distances parents left right values distances′ parents′ left′ right′ values′) where
+  module _ {distances′ parents′ histogram′ left′ right′ values′ : List ℕ} (same : SameLengths distances parents histogram left right values distances′ parents′ histogram′ left′ right′ values′) where
     -- the run may go on with them
     start-ready : Ready (givenBy source P schedule offsets targets distances′ left′ right′ values′)
     start-ready = record {
@@ -70,9 +71,9 @@ module _ {source P : ℕ} {schedule offsets targets distances parents left right
 
     -- the opened lists, bags and phases are those of the model's opening
     pub start-on : {b none : declared.Bag} {inputs outputs : List declared.Bag} {phases : List Phase}
-        → FirstLayer P source distances distances′ parents′ left′ right′ values′ b
+        → FirstLayer P source distances distances′ parents′ histogram′ left′ right′ values′ b
         → inputs ≡ firstOfEight b → none ≡ newBag → outputs ≡ firstOfEight none → phases ≡ allFree
-        → Going (givenBy source P schedule offsets targets distances′ left′ right′ values′) distances′ parents′ left′ right′ values′ inputs outputs phases 1 0 0 0 0
+        → Going (givenBy source P schedule offsets targets distances′ left′ right′ values′) distances′ parents′ histogram′ left′ right′ values′ inputs outputs phases 1 0 0 0 0
     unfolding play playFrom stateOf openingState
     start-on {b} opened first new bare free = rw (first, bare, new, free) (record {
       ready = start-ready;
@@ -98,6 +99,7 @@ module _ {source P : ℕ} {schedule offsets targets distances parents left right
       pool = moved-pool (opened .pool) moved;
       whole = moved .nodes one ∙ opened .whole ∙ ap (λ (k : ℕ). P * k) (sym (same .of-distances));
       in-rows = λ w here. rw (opened-free w) tt;
+      census = opened .counts;
       waiting = omega (
         arith,
         opened-size P some-worker few-workers left′ right′ values′ b,

@@ -2,12 +2,13 @@
 use mathlib.Core.Path.{_≡_, refl, sym, ap, _∙_}
 use mathlib.Core.Bool.{Bool, true, false}
 use mathlib.Core.Logic.{_⊎_}
-use mathlib.Core.List.{List, [], _∷_, map-append}
-use mathlib.Core.Option.{some}
+use mathlib.Core.List.{List, [], _∷_, map, map-append}
+use mathlib.Core.Option.{none, some, Option·some-injective}
 use Prim.Native.Nat.{ℕ, suc, _+_, _-_, _*_, _≤_, _<_}
 use native.Mathlib.Nat.{mul-le-mul}
+use native.Mathlib.Numerals.{add-one}
 use native.Mathlib.Omega.{arith}
-use lib.ListN.{length, getD, set, take, length-set}
+use lib.ListN.{length, getD, set, take, length-set, length-map}
 use lib.Seq.{take-set-lt, set-getD, getD-set-same}
 use Rattle.lists.specs.Lists.{sumOf}
 use Rattle.lists.proofs.Sums.{sum-set, sum-at, sum-append}
@@ -24,25 +25,27 @@ use Rattle.bag.proofs.Family.{same-moved}
 use Rattle.bag.proofs.HeldFacts.{held-shaped, family-room}
 use Rattle.schedule.specs.declared.Event.the-variants.{Work}
 use Rattle.model.specs.State as model
-use Rattle.model.specs.Table.{holdAt, move, afterMove, movedState, act}
-use Rattle.model.specs.Words.{labelsOf}
+use Rattle.model.specs.Table.{holdAt, mark, move, afterMove, movedState, act}
+use Rattle.model.specs.Words.{optionOf, labelsOf}
+use Rattle.model.specs.Histogram.{recount}
 use Rattle.model.specs.Demand.{held}
 use Rattle.workers.specs.declared.Phase.{Phase}
-use Rattle.workers.specs.declared.Phase.the-variants.{Free, Named}
+use Rattle.workers.specs.declared.Phase.the-variants.{Free, Holding, InHand, Marked, Named}
 use Rattle.workers.specs.Shown.{phaseOf, stateOf}
-use Rattle.workers.specs.Steps.{EdgeOf, InRows, holdFrom, Between, Advanced, BegunFrom, heldOf}
+use Rattle.workers.specs.Steps.{EdgeOf, InRows, holdFrom, Between, Countable, countsAfter, Advanced, BegunFrom, heldOf}
 use Rattle.workers.proofs.RowFacts.{edge-small, fits-as}
 use Rattle.workers.proofs.MoveFacts.{Moves, rest-none, begun-moves, stowed-moves, advanced-moves, between-others, not-between}
+use Rattle.workers.proofs.CountFacts.{Markable, counts-recount, countable-now}
 use Rattle.workers.proofs.CrewFacts.{crew-long, crew-set, crew-loads}
 use Rattle.workers.proofs.BagsFacts.{bagsOf, BagsAfter, input-pooled, output-pooled, input-after, output-after}
 use Rattle.workers.proofs.IdleFacts.{held-one, busy-set, busy-some}
 use Rattle.engine.proofs.PlayingFacts.{Given, graph, crew, Long, Going, Turn, placed, now-state, enough, phases-there, even, held-inputs, held-outputs, shown-phases}
-use Rattle.engine.proofs.PlayingFacts.{input-shown, output-shown, worker-shown, now-fits, layer-low, layer-fits, next-fits, staffed, orElse, play-on, unmet-on}
+use Rattle.engine.proofs.PlayingFacts.{input-shown, output-shown, worker-shown, now-fits, layer-low, layer-fits, next-fits, next-stays, staffed, orElse, play-on, unmet-on}
 
-module _ {g : Given} {distances parents left right values : List ℕ} {inputs outputs : List declared.Bag} {phases : List Phase} {pending found used effective layer w : ℕ}
-    (turn : Turn g distances parents left right values inputs outputs phases pending found used effective layer (Work w)) where
+module _ {g : Given} {distances parents histogram left right values : List ℕ} {inputs outputs : List declared.Bag} {phases : List Phase} {pending found used effective layer w : ℕ}
+    (turn : Turn g distances parents histogram left right values inputs outputs phases pending found used effective layer (Work w)) where
   -- what holds before the byte
-  abbrev at : Going g distances parents left right values inputs outputs phases pending found used effective layer
+  abbrev at : Going g distances parents histogram left right values inputs outputs phases pending found used effective layer
   at = turn .going
 
   -- the worker is there
@@ -89,7 +92,7 @@ module _ {g : Given} {distances parents left right values : List ℕ} {inputs ou
   input-told told = sym (told left right values (input-pooled (enough at) (at .pool) w here))
 
   -- a free worker with nothing in its bag stays as it is
-  pub rest-on : phase ≡ Free → isEmpty held-input ≡ true → Going g distances parents left right values inputs outputs phases pending found (used + 1) effective layer
+  pub rest-on : phase ≡ Free → isEmpty held-input ≡ true → Going g distances parents histogram left right values inputs outputs phases pending found (used + 1) effective layer
   unfolding afterMove
   rest-on free empty =
       unmet-on turn
@@ -116,7 +119,7 @@ module _ {g : Given} {distances parents left right values : List ℕ} {inputs ou
   -- A move that was made.
 
   -- the worker's bags and phase, and the lists, after it
-  pub record Worked (distances′ parents′ left′ right′ values′ : List ℕ) (inputs′ outputs′ : List declared.Bag) (phases′ : List Phase) (found′ : ℕ)
+  pub record Worked (distances′ parents′ histogram′ left′ right′ values′ : List ℕ) (inputs′ outputs′ : List declared.Bag) (phases′ : List Phase) (found′ : ℕ)
       : Type 0 where
     pub next : Phase
     pub stored : phases′ ≡ set phases w next
@@ -126,6 +129,8 @@ module _ {g : Given} {distances parents left right values : List ℕ} {inputs ou
     pub bags : BagsAfter (g .workers) inputs outputs left right left′ right′ values′ inputs′ outputs′
         (set (held-inputs at) w input′) (set (held-outputs at) w output′)
     pub long : Long g distances′ parents′ left′ right′ values′ inputs′ outputs′ phases
+    -- the counts are a recount of the distances
+    pub census : histogram′ ≡ recount (map optionOf distances′)
     -- the vertex that it takes or holds is one of those pending
     pub taken : size input′ + 1 ≡ size held-input + heldOf phase
     -- so many more are in its output bag
@@ -139,8 +144,8 @@ module _ {g : Given} {distances parents left right values : List ℕ} {inputs ou
   outputs-inside = omega (arith, even at .outputs-long, here)
 
   -- so some vertex is pending
-  pub some-pending : {distances′ parents′ left′ right′ values′ : List ℕ} {inputs′ outputs′ : List declared.Bag} {phases′ : List Phase} {found′ : ℕ}
-      → Worked distances′ parents′ left′ right′ values′ inputs′ outputs′ phases′ found′ → 1 ≤ pending
+  pub some-pending : {distances′ parents′ histogram′ left′ right′ values′ : List ℕ} {inputs′ outputs′ : List declared.Bag} {phases′ : List Phase} {found′ : ℕ}
+      → Worked distances′ parents′ histogram′ left′ right′ values′ inputs′ outputs′ phases′ found′ → 1 ≤ pending
   some-pending worked =
       omega (
         arith,
@@ -152,11 +157,11 @@ module _ {g : Given} {distances parents left right values : List ℕ} {inputs ou
       )
 
   -- the run goes on
-  pub worked-on : {distances′ parents′ left′ right′ values′ : List ℕ} {inputs′ outputs′ : List declared.Bag} {phases′ : List Phase} {found′ : ℕ} (done : ℕ)
-      → Worked distances′ parents′ left′ right′ values′ inputs′ outputs′ phases′ found′ → done + heldOf (getD phases′ w Free) ≡ 1
-      → Going g distances′ parents′ left′ right′ values′ inputs′ outputs′ phases′ (pending - done) found′ (used + 1) (effective + 1) layer
+  pub worked-on : {distances′ parents′ histogram′ left′ right′ values′ : List ℕ} {inputs′ outputs′ : List declared.Bag} {phases′ : List Phase} {found′ : ℕ} (done : ℕ)
+      → Worked distances′ parents′ histogram′ left′ right′ values′ inputs′ outputs′ phases′ found′ → done + heldOf (getD phases′ w Free) ≡ 1
+      → Going g distances′ parents′ histogram′ left′ right′ values′ inputs′ outputs′ phases′ (pending - done) found′ (used + 1) (effective + 1) layer
   unfolding afterMove stateOf
-  worked-on {distances′} {parents′} {left′} {right′} {values′} {inputs′} {outputs′} {phases′} done worked told =
+  worked-on {distances′} {parents′} {histogram′} {left′} {right′} {values′} {inputs′} {outputs′} {phases′} done worked told =
       let next = worked .next in
       rw (worked .stored)
       (play-on turn
@@ -170,6 +175,7 @@ module _ {g : Given} {distances parents left right values : List ℕ} {inputs ou
         outputs-long = worked .long .outputs-long;
         phases-long = length-set phases w next ∙ at .long .phases-long;
       })
+      (worked .census)
       (worked .bags .moved)
       (set-each (InRows (g .offsets) (g .vertices)) (λ j. j < g .workers) phases w next Free
       (rw (at .long .distances-long) at (worked .moves .in-rows)) (at .in-rows))
@@ -231,7 +237,7 @@ module _ {g : Given} {distances parents left right values : List ℕ} {inputs ou
   -- `begin`
   pub begun-worked : phase ≡ Free → isEmpty held-input ≡ false → {left′ : List ℕ} {rest : declared.Bag} {next : Phase}
       → BegunFrom input (g .offsets) left right values left′ rest next
-      → Worked distances parents left′ right values (set inputs w rest) outputs (set phases w next) found
+      → Worked distances parents histogram left′ right values (set inputs w rest) outputs (set phases w next) found
   begun-worked free filled {left′} {rest} {next} begun = record {
     next = next;
     stored = refl;
@@ -250,6 +256,7 @@ module _ {g : Given} {distances parents left right values : List ℕ} {inputs ou
       outputs-long = at .long .outputs-long;
       phases-long = at .long .phases-long;
     };
+    census = at .census;
     taken = omega (arith, ap heldOf free, free-none, ap size (begun .taken .held), weigh-rest one held-input (held-shaped left right values input) filled);
     found-more = refl;
   }
@@ -325,7 +332,7 @@ module _ {g : Given} {distances parents left right values : List ℕ} {inputs ou
     pub stowed-worked : {left′ right′ values′ : List ℕ} {more : declared.Bag} {next : Phase}
         → Inserted left right values output t left′ right′ values′ more
         → ((offsets : List ℕ) → f ≡ getD offsets (u + 1) 0 → next ≡ holdFrom offsets u (e + 1))
-        → Worked distances parents left′ right′ values′ inputs (set outputs w more) (set phases w next) (found + 1)
+        → Worked distances parents histogram left′ right′ values′ inputs (set outputs w more) (set phases w next) (found + 1)
     stowed-worked {left′} {right′} {values′} {more} {next} inserted passed = record {
       next = next;
       stored = refl;
@@ -344,6 +351,7 @@ module _ {g : Given} {distances parents left right values : List ℕ} {inputs ou
         outputs-long = length-set outputs w more ∙ at .long .outputs-long;
         phases-long = at .long .phases-long;
       };
+      census = at .census;
       taken = omega (arith, ap heldOf named, held-one (Named u e f t) (λ (same : Named u e f t ≡ Free). let z : _≡_ {A = ℕ} 0 1 = cc in omega arith));
       found-more = omega (arith, ap size (inserted .held), weigh-insert one t held-output);
     }
@@ -360,17 +368,65 @@ module _ {g : Given} {distances parents left right values : List ℕ} {inputs ou
       → Between (g .targets) (length distances) phase
   between-now tag first last h k = rw (at .long .distances-long) (between-others (at .ready .rows) tag first last phase in-row h k)
 
+  -- a mark in the table
+  module _ {u e f t : ℕ} (reached : phase ≡ InHand u e f t) where
+    -- the worker after it has marked
+    marking : model.Worker
+    marking = model.workerWith held-input held-output (model.marked u (e - getD (g .offsets) u 0) t)
+
+    -- the table has this move for it
+    mark-act : act (graph g) (now-state at) (Work w) ≡ some (movedState (now-state at) w (marking, mark layer t (labelsOf distances parents)))
+    unfolding afterMove move phaseOf marking
+    mark-act =
+        work-act
+        ∙ ap (λ (p : Phase). afterMove (now-state at) w (move (graph g) layer (labelsOf distances parents) held-input held-output (phaseOf (g .offsets) p))) reached
+
+    -- the target is at d + 1 after it
+    mark-label : getD (set (map optionOf distances) t (some (suc layer))) t none ≡ some (suc layer)
+    mark-label =
+        let here = fits-as (g .offsets) (g .vertices) reached in-row .1 in
+        getD-set-same (map optionOf distances) t (some (suc layer)) none (omega (arith, length-map distances optionOf, at .long .distances-long))
+
+    -- so d + 1 is below n
+    mark-below : layer + 1 < length distances
+    unfolding orElse stateOf labelsOf mark
+    mark-below =
+        let low : suc layer < length (graph g) = (rw mark-act at (next-fits turn .distances-below t (suc layer))) mark-label in
+        omega (arith, at .ready .rows .count, at .long .distances-long)
+
+    -- and a target that was set was at d + 1
+    mark-again : (k : ℕ) → getD (map optionOf distances) t none ≡ some k → k ≡ layer + 1
+    unfolding orElse stateOf labelsOf mark
+    mark-again k before =
+        let after : getD (set (map optionOf distances) t (some (suc layer))) t none ≡ some k = rw mark-act at (next-stays turn t k before) in
+        Option·some-injective k (suc layer) (sym after ∙ mark-label) ∙ sym (add-one layer)
+
+  -- so a mark can be counted
+  markable : (p : Phase) → phase ≡ p → Markable layer (length distances) distances p
+  markable Free is = tt
+  markable (Holding u e f) is = tt
+  markable (InHand u e f t) is = (mark-below is, mark-again is)
+  markable (Marked u e f t) is = tt
+  markable (Named u e f t) is = tt
+
   -- what `advance` takes for granted
   pub advance-able : Between (g .targets) (length distances) phase
-      → (length parents ≡ length distances) × ((layer + 1 < 65536) × Between (g .targets) (length distances) phase)
-  advance-able between = (at .long .parents-long ∙ sym (at .long .distances-long), (layer-fits at, between))
+      → (length parents ≡ length distances) × ((layer + 1 < 65536) × (Between (g .targets) (length distances) phase × Countable layer histogram phase))
+  advance-able between = (
+    at .long .parents-long ∙ sym (at .long .distances-long),
+    (
+      layer-fits at,
+      (between, countable-now layer distances phase (omega (arith, at .long .distances-long, at .ready .rows .few-vertices)) (markable phase refl) (at .census)),
+    ),
+  )
 
   -- `advance`
-  pub advanced-worked : {distances′ parents′ : List ℕ} {next : Phase} → Between (g .targets) (length distances) phase
+  pub advanced-worked : {distances′ parents′ histogram′ : List ℕ} {next : Phase} → Between (g .targets) (length distances) phase
       → ((offsets : List ℕ) → GraphRows offsets (g .targets) (length distances) → layer < length distances → InRows offsets (length distances) phase
       → Advanced phase layer offsets (g .targets) distances parents distances′ parents′ next)
-      → Worked distances′ parents′ left right values inputs outputs (set phases w next) found
-  advanced-worked {distances′} {parents′} {next} between promised = record {
+      → histogram′ ≡ countsAfter phase layer distances histogram
+      → Worked distances′ parents′ histogram′ left right values inputs outputs (set phases w next) found
+  advanced-worked {distances′} {parents′} {next = next} between promised counted = record {
     next = next;
     stored = refl;
     input′ = held-input;
@@ -387,6 +443,7 @@ module _ {g : Given} {distances parents left right values : List ℕ} {inputs ou
       outputs-long = at .long .outputs-long;
       phases-long = at .long .phases-long;
     };
+    census = counts-recount phase advanced between (markable phase refl) (at .census) counted;
     taken = omega (arith, held-one phase (λ free. not-between (g .targets) (length distances) free (λ never. never) between));
     found-more = refl;
   }

@@ -9,6 +9,7 @@ use Rattle.numbers.specs.Numbers.{maxEvents, success, unfinished}
 use Rattle.graph.specs.Graph.{rowsOf}
 use Rattle.model.specs.Play.{Run}
 use Rattle.model.specs.Words.{wordOf}
+use Rattle.model.specs.Histogram.{recount}
 use Rattle.model.specs.Demand.{Accepted}
 use Rattle.opening.specs.Opening.{Sized}
 use Rattle.engine.specs.declared.Answer.{Answer}
@@ -17,11 +18,11 @@ use Rattle.graph.specs.Steps.{GraphRows}
 -- what `run` takes for granted: the rows of a graph, an accepted call, "sheet 0 to 5,000,000 bytes", and lists
 -- that are as long as their needs
 pub record Runnable (source P : ℕ)
-    (schedule offsets targets distances parents left right values : List ℕ) : Type 0 where
+    (schedule offsets targets distances parents histogram left right values : List ℕ) : Type 0 where
   pub rows : GraphRows offsets targets (length distances)
   pub accepted : Accepted (rowsOf offsets targets) source P schedule
   pub few-events : length schedule ≤ maxEvents
-  pub sized : Sized P distances parents left right values
+  pub sized : Sized P distances parents histogram left right values
 
 -- an answer by its four numbers
 abbrev pub answerOf : ℕ → ℕ → ℕ → ℕ → Answer
@@ -34,8 +35,9 @@ pub record Told (r : Run) (answer : Answer) : Type 0 where
   pub effective : answer .effective ≡ r .effective
   pub layer : answer .layer ≡ r .state .layer
 
--- what `run` promises: answer and labels of the model's run
-pub record Ran (r : Run) (distances′ parents′ : List ℕ) (answer : Answer) : Type 0 where
+-- what `run` promises: answer and labels of the model's run, and a recount of its distances
+pub record Ran (r : Run) (distances′ parents′ histogram′ : List ℕ) (answer : Answer) : Type 0 where
   pub told : Told r answer
   pub distances : distances′ ≡ map wordOf (r .state .labels .distances)
   pub parents : parents′ ≡ map wordOf (r .state .labels .parents)
+  pub histogram : histogram′ ≡ recount (r .state .labels .distances)

@@ -40,20 +40,30 @@ pub fn run(
     targets: &[u16],
     distances: &mut [u16],
     parents: &mut [u16],
+    histogram: &mut [u16],
     left: &mut [u16],
     right: &mut [u16],
     values: &mut [u16],
 ) -> Answer
     requires { ⌜
         Runnable source workers (now schedule) (now offsets) (now targets) (now distances) (now parents)
-        (now left) (now right) (now values)
+        (now histogram) (now left) (now right) (now values)
         ⌝ }
     ensures { λ r. ⌜
         Ran (play (rowsOf (now (offsets .entry)) (now (targets .entry))) source workers (now (schedule .entry)))
-        (now (distances .exit)) (now (parents .exit)) r
+        (now (distances .exit)) (now (parents .exit)) (now (histogram .exit)) r
         ⌝ }
 {
-    let source_bag = open(source, workers, distances, parents, left, right, values);
+    let source_bag = open(
+        source,
+        workers,
+        distances,
+        parents,
+        histogram,
+        left,
+        right,
+        values,
+    );
     let mut inputs = first_of_eight(source_bag);
     let mut outputs = first_of_eight(bag::empty());
     let mut phases = all_free();
@@ -91,7 +101,7 @@ pub fn run(
                     phases[w] = next;
                     found += 1;
                 } else {
-                    let next = advance(phase, layer, targets, distances, parents);
+                    let next = advance(phase, layer, targets, distances, parents, histogram);
                     phases[w] = next;
                 }
                 pending -= used_up(phases[w]);

@@ -1,9 +1,11 @@
--- Sums of a weight over a list: of two lists, with one or two elements replaced, of equal or smaller weights, of elements that weigh nothing.
+-- Sums of a weight over a list: of two lists, with one or two elements replaced, of equal or smaller weights, of elements that weigh nothing,
+-- of consecutive numbers.
 use Prim.Native.Nat.{ℕ, zero, suc, _+_, _*_, _≤_, _<_}
 use native.Mathlib.Nat.{add-zero, suc-add, add-suc}
 use native.Mathlib.Omega.{arith}
-use mathlib.Core.Path.{_≡_, refl}
-use mathlib.Core.List.{List, [], _∷_, _++_}
+use native.Mathlib.Decide.{ℕ-discrete}
+use mathlib.Core.Path.{_≡_, refl, ap}
+use mathlib.Core.List.{List, [], _∷_, _++_, map}
 use lib.ListN.{length, getD, set, replicate, length-set}
 use lib.Seq.{getD-set-other}
 use Rattle.lists.specs.Lists.{numbersFrom, sumOf}
@@ -71,6 +73,12 @@ unfolding sumOf
 sum-both f g [] = refl
 sum-both f g (x ∷ l) = omega (arith, sum-both f g l)
 
+-- a function at each element
+pub sum-map : {A B : Type 0} (f : B → ℕ) (h : A → B) (l : List A) → sumOf f (map h l) ≡ sumOf (λ (x : A). f (h x)) l
+unfolding sumOf
+sum-map f h [] = refl
+sum-map f h (x ∷ l) = omega (arith, sum-map f h l)
+
 -- consecutive numbers, one more
 pub sum-last : (f : ℕ → ℕ) (a k : ℕ) → sumOf f (numbersFrom a (suc k)) ≡ sumOf f (numbersFrom a k) + f (a + k)
 unfolding sumOf numbersFrom
@@ -82,3 +90,21 @@ pub sum-same : {A : Type 0} (f g : A → ℕ) (d : A) (l : List A) → ((i : ℕ
 unfolding sumOf
 sum-same f g d [] same = refl
 sum-same f g d (x ∷ l) same = omega (arith, same 0 (omega arith), sum-same f g d l (λ i h. same (suc i) (omega arith)))
+
+-- a number that alone weighs something, and consecutive numbers
+module _ (f : ℕ → ℕ) (x : ℕ) (others : (y : ℕ) → (y ≡ x → ⊥) → f y ≡ 0) where
+  -- past it
+  sum-past : (a n : ℕ) → x < a → sumOf f (numbersFrom a n) ≡ 0
+  unfolding sumOf numbersFrom
+  sum-past a zero h = refl
+  sum-past a (suc n) h = omega (arith, others a (omega arith), sum-past (suc a) n (omega arith))
+
+  -- it is one of them
+  pub sum-only : (a n : ℕ) → a ≤ x → x < a + n → sumOf f (numbersFrom a n) ≡ f x
+  unfolding sumOf numbersFrom
+  sum-only a zero h k = absurd (omega arith)
+  sum-only a (suc n) h k = go (ℕ-discrete a x) (sum-only (suc a) n)
+    where
+      go : Dec (a ≡ x) → (suc a ≤ x → x < suc a + n → sumOf f (numbersFrom (suc a) n) ≡ f x) → f a + sumOf f (numbersFrom (suc a) n) ≡ f x
+      go (yes same) rest = omega (arith, ap f same, sum-past (suc a) n (omega arith))
+      go (no apart) rest = omega (arith, others a apart, rest (omega arith) (omega arith))

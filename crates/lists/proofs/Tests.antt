@@ -13,6 +13,7 @@ use lib.Seq.{getD-append-add}
 use borrow.Author.Tests.{ltb-false, leb-true, leb-false, eqb-true, eqb-false, not-false, le-ltb, le-leb, lt-leb, eq-eqb, ne-eqb}
 use Rattle.lists.specs.Lists.{numbersFrom, sumsFrom, elem, repeats, lacks, reaches, largest, fallsFrom}
 use Rattle.lists.proofs.Or.{or-none, none-or, or-second, not-so}
+use Rattle.lists.proofs.Replaced.{map-at}
 
 -- a test, counted as 0 or 1, is at most n, if n is at least 1 where it holds
 pub test-within : (b : Bool) (n : ℕ) → (b ≡ true → 1 ≤ n) → cond b 1 0 ≤ n
@@ -185,6 +186,10 @@ map-range-more {A} f n =
     ap (λ (l : List A). map f (numbersFrom 0 n) ++ l) (sym last)
     ∙ sym (map-append f (numbersFrom 0 n) (numbersFrom (0 + n) 1))
     ∙ ap (map f) (range-append 0 n 1)
+
+-- a function at each number of a range, at one of them
+pub map-range-at : {A : Type 0} (f : ℕ → A) (n i : ℕ) (d : A) → i < n → getD (map f (numbersFrom 0 n)) i d ≡ f i
+map-range-at f n i d h = map-at f (numbersFrom 0 n) i 0 d (rw (length-range 0 n) h) ∙ ap f (getD-range 0 n i 0 h ∙ zero-add i)
 
 -- what is in a range
 pub elem-range : (x a n : ℕ) → elem x (numbersFrom a n) ≡ true → (a ≤ x) × (x < a + n)

@@ -1,5 +1,5 @@
 -- A whole call: what passes every test on the input is what demand 3 asks for; a call that answers 0 or 21 has demand 3 of its own run, answers its
--- run's counts and leaves its run's labels; any other leaves all as it was, but for the marks with 5 and 6.
+-- run's numbers and leaves its run's labels and a recount of its distances; any other leaves all as it was, but for the marks with 5 and 6.
 use mathlib.Core.Path.{_≡_, refl, sym, _∙_, ap}
 use mathlib.Core.Bool.{Bool, true, false, cond, not, _||_, true≢false}
 use mathlib.Core.List.{List, [], _∷_, _++_, map}
@@ -23,6 +23,7 @@ use Rattle.schedule.proofs.Schedules.{positive-schedule, schedule-passed}
 use Rattle.model.specs.Play.{play, rounds, eventBound}
 use Rattle.model.specs.Call.{Lent, lengthsOf, lengthsShort, earlyRefusals, runOf, inputRefusals, searchRefusals, searchNumber, plays, answerBy, sweepsMarks, lentAfter}
 use Rattle.model.specs.Words.{wordOf}
+use Rattle.model.specs.Histogram.{recount}
 use Rattle.model.specs.Call.{outcomeOfSearch}
 use Rattle.model.specs.Demand.{Accepted, Demand}
 use Rattle.model.proofs.Theorem.{demand-holds}
@@ -139,7 +140,8 @@ module _ (file : List ℕ) (source P : ℕ) (schedule : List ℕ) (lent : Lent) 
 
   -- Answers and lists at exit.
 
-  -- with 0 and 21: the run's used, effective and d; rows, zeros in marks and nodes, and the run's labels over the first places of the lists
+  -- with 0 and 21: the run's used, effective and d; rows, zeros in marks and nodes, and the run's labels and their recount over the first
+  -- places of the lists
   pub call-played : plays number ≡ true → let r = play (graphOf file) source P schedule in
       let nodes : List ℕ = replicate (P * vertexCount file + 1) 0 in
       outcomeOfSearch file source P schedule lent ≡ record {
@@ -150,6 +152,7 @@ module _ (file : List ℕ) (source P : ℕ) (schedule : List ℕ) (lent : Lent) 
           marks = overlay (replicate (edgeCount file) 0) (lent .marks);
           distances = overlay (map wordOf (r .state .labels .distances)) (lent .distances);
           parents = overlay (map wordOf (r .state .labels .parents)) (lent .parents);
+          histogram = overlay (recount (r .state .labels .distances)) (lent .histogram);
           left = overlay nodes (lent .left);
           right = overlay nodes (lent .right);
           values = overlay nodes (lent .values);
@@ -167,6 +170,7 @@ module _ (file : List ℕ) (source P : ℕ) (schedule : List ℕ) (lent : Lent) 
       marks = cond (elem number (repeated ∷ unreached ∷ [])) (overlay (replicate (edgeCount file) 0) (lent .marks)) (lent .marks);
       distances = lent .distances;
       parents = lent .parents;
+      histogram = lent .histogram;
       left = lent .left;
       right = lent .right;
       values = lent .values;

@@ -117,6 +117,7 @@ module _ {g : Graph} {source P d : ℕ} {x : Labels} {workers : List Worker}
     written = l .written;
     not-far = λ u k f. omega (arith, l .not-far u k f);
     near = next-set;
+    some-vertex = (v, l .written v (suc d) e);
     room = omega (arith, l .more-room v e);
     more-room = λ u f. absurd (omega (arith, l .not-far u (suc (suc d)) f));
     own-parent = l .own-parent;

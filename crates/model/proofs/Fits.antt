@@ -1,18 +1,18 @@
 -- What a sound state needs of the engine's lists: all bags together hold at most P copies of each vertex, no slot above the sixteenth is filled,
 -- input bags hold vertices, and distances, parents and the layer are below n.
-use mathlib.Core.Path.{_≡_, refl}
+use mathlib.Core.Path.{_≡_, refl, sym}
 use mathlib.Core.List.{List, [], _∷_, _++_}
 use mathlib.Core.Option.{some, mem-unique}
 use Prim.Native.Nat.{ℕ, suc, _+_, _*_, _^_, _≤_, _<_}
-use native.Mathlib.Nat.{zero-add, mul-le-mul}
+use native.Mathlib.Nat.{mul-le-mul}
 use native.Mathlib.Decide.{decLe, ℕ-discrete}
 use native.Mathlib.Omega.{arith}
 use lib.ListN.{length}
 use borrow.Author.Tests.{ne-eqb}
 use Rattle.numbers.specs.Numbers.{maxVertices}
 use Rattle.lists.specs.Lists.{numbersFrom, sumOf}
-use Rattle.lists.proofs.Sums.{sum-append, sum-at, sum-both, sum-within}
-use Rattle.lists.proofs.Tests.{length-range, getD-range}
+use Rattle.lists.proofs.Sums.{sum-append, sum-at, sum-both, sum-within, sum-only}
+use Rattle.lists.proofs.Tests.{length-range}
 use Rattle.graph.specs.Graph.{Graph}
 use Rattle.pennant.specs.Bag.{slotCount}
 use Rattle.pennant.specs.Held.{items, weigh, one, only, size, copies}
@@ -28,9 +28,8 @@ use Rattle.model.proofs.LabelFacts.{label-below}
 -- a number below n is counted among 0, 1, .., n - 1
 range-counts : (x n : ℕ) → x < n → 1 ≤ sumOf (λ (v : ℕ). only v x) (numbersFrom 0 n)
 range-counts x n h =
-    let other : only (suc x) x ≡ 0 = rw (ne-eqb x (suc x) (omega arith)) in
-    let most = sum-at (λ (v : ℕ). only v x) (numbersFrom 0 n) x (suc x) other in
-    omega (arith, only-self x, rw (getD-range 0 n x (suc x) h, zero-add x) at most)
+    let alone = sum-only (λ (v : ℕ). only v x) x (λ v apart. rw (ne-eqb x v (λ q. apart (sym q)))) 0 n (omega arith) (omega arith) in
+    omega (arith, only-self x)
 
 -- a list of numbers below n is no longer than its counts of 0, 1, .., n - 1 together
 counts-long : (n : ℕ) (l : List ℕ) → ((v : ℕ) → 1 ≤ sumOf (only v) l → v < n) → sumOf one l ≤ sumOf (λ (v : ℕ). sumOf (only v) l) (numbersFrom 0 n)

@@ -1,4 +1,5 @@
--- Facts about one label, set or unset: whose it is; and about sound labels: one that is set is the vertex's distance.
+-- Facts about one label, set or unset: whose it is; and about sound labels: one that is set is the vertex's distance, and each layer so
+-- far has one.
 use mathlib.Core.Path.{_≡_, refl, sym}
 use mathlib.Core.Bool.{true, false, true≢false}
 use mathlib.Core.Option.{Option, none, some}
@@ -10,7 +11,7 @@ use Rattle.lists.proofs.Parts.{place-below}
 use Rattle.graph.specs.Graph.{Graph}
 use Rattle.model.specs.Paths.{Distance, Labels, distanceOf, isSet}
 use Rattle.model.proofs.Sound.{LabelsSound}
-use Rattle.model.proofs.Walks.{distance-unique}
+use Rattle.model.proofs.Walks.{distance-unique, distance-up-to}
 
 -- the value that a label is set to
 pub record HasValue (l : Option ℕ) : Type 0 where
@@ -60,3 +61,9 @@ module _ {g : Graph} {source d : ℕ} {x : Labels} (l : LabelsSound g source d x
   -- so has every vertex of this layer
   pub layer-is : (v : ℕ) → Distance g source v d → distanceOf x v ≡ some d
   layer-is v far = label-is v d (l .near v d (far .walk) (omega arith)) far
+
+  -- and each layer up to this one has a vertex whose distance is written
+  pub layer-written : (h : ℕ) → h ≤ d → (v : ℕ) × (distanceOf x v ≡ some h)
+  layer-written h low =
+      let there = distance-up-to (l .some-vertex .1) h low in
+      (there .0, label-is (there .0) h (l .near (there .0) h (there .1 .walk) low) (there .1))

@@ -5,6 +5,7 @@ pub mod Alone
 pub mod Sound
 pub mod Walks
 pub mod LabelFacts
+pub mod HistogramFacts
 pub mod WordFacts
 pub mod Certified
 pub mod Certificate
@@ -27,5 +28,6 @@ pub mod Plays
 pub mod Rounds
 pub mod Steps
 pub mod Used
+pub mod Histograms
 pub mod Theorem
 pub mod Calls

@@ -25,7 +25,7 @@ nearer-kept {p = p} {v = v} keeps n =
 
 module _ {g : Graph} {source d : ℕ} {a : Labels} (l : LabelsSound g source d a) where
   -- a label that is set is the distance
-  written-is : {v k j : ℕ} → distanceOf a v ≡ some k → Distance g source v j → k ≡ j
+  pub written-is : {v k j : ℕ} → distanceOf a v ≡ some k → Distance g source v j → k ≡ j
   written-is {v = v} {k = k} e far = distance-unique (l .written v k e) far
 
   -- the unset target of an edge of this layer is in the next one
@@ -42,7 +42,7 @@ module _ {g : Graph} {source d : ℕ} {a : Labels} (l : LabelsSound g source d a
 module _ {g : Graph} {source : ℕ} (ground : Ground g source) {d : ℕ} {a : Labels} (l : LabelsSound g source d a) where
   module _ {t : ℕ} (next : Distance g source t (suc d)) where
     -- a vertex of the next layer has a place for its distance
-    has-distance : t < length (a .distances)
+    pub has-distance : t < length (a .distances)
     has-distance = rw (l .distances-all) (walk-below ground (next .walk))
 
     -- and one for its parent
@@ -87,6 +87,7 @@ module _ {g : Graph} {source : ℕ} (ground : Ground g source) {d : ℕ} {a : La
       written = λ v k e. mark-cases v (some k) e (λ q r. rw (q, ← Option·some-injective (suc d) k r) next) (λ apart. l .written v k);
       not-far = λ v k e. mark-cases v (some k) e (λ q r. omega (arith, Option·some-injective (suc d) k r)) (λ apart. l .not-far v k);
       near = λ v k w h. let x = set-value (distanceOf a v) (l .near v k w h) in rw (mark-keeps v (x .value) (x .is));
+      some-vertex = l .some-vertex;
       room = omega (arith, mark-room);
       more-room = λ v e. mark-room;
       own-parent = l .own-parent;
@@ -123,6 +124,7 @@ module _ {g : Graph} {source : ℕ} (ground : Ground g source) {d : ℕ} {a : La
       written = l .written;
       not-far = l .not-far;
       near = l .near;
+      some-vertex = l .some-vertex;
       room = l .room;
       more-room = l .more-room;
       own-parent = getD-set-other (a .parents) t source (some u) none name-apart ∙ l .own-parent;

@@ -37,6 +37,7 @@ module _ {g : Graph} {source : ℕ} (ground : Ground g source) where
     written = λ v k e. let q = only-source e in rw (q .0, q .1) distance-source;
     not-far = λ v k e. omega (arith, only-source e);
     near = λ v k w h. rw (walk-zero w (omega arith), alone-own (length g) source 0 (ground .starts));
+    some-vertex = (source, distance-source);
     room = omega (arith, alone-unsets (length g) source 0 (ground .starts));
     more-room = λ v e. absurd (omega (arith, only-source e));
     own-parent = alone-own (length g) source source (ground .starts);

@@ -29,6 +29,8 @@ module _ (g : Graph) (source : ℕ) where
     pub not-far : (v k : ℕ) → distanceOf x v ≡ some k → k ≤ suc d
     -- what d links reach is set
     pub near : (v k : ℕ) → Walk g source v k → k ≤ d → isSet (distanceOf x v) ≡ true
+    -- this layer has a vertex
+    pub some-vertex : (v : ℕ) × Distance g source v d
     -- each layer up to d has a vertex that is set
     pub room : d + 1 + unsets (x .distances) ≤ length g
     -- and so has the next one, once one of it is set

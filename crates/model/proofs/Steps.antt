@@ -116,7 +116,7 @@ unfolding closed
 closed-filled s bag e = rw e
 
 -- either way the labels stay
-closed-labels : (s : State) (bag : Bag) (b : Bool) → isEmpty bag ≡ b → closed s bag .labels ≡ s .labels
+pub closed-labels : (s : State) (bag : Bag) (b : Bool) → isEmpty bag ≡ b → closed s bag .labels ≡ s .labels
 unfolding closed
 closed-labels s bag true e = rw e
 closed-labels s bag false e = rw e

@@ -1,6 +1,8 @@
--- Facts about paths and distances: where they end, that a distance is unique, one link more, and the last link of a path.
+-- Facts about paths and distances: where they end, that a distance is unique, one link more, the last link of a path, and a vertex of each layer
+-- up to a vertex's own.
 use mathlib.Core.Path.{_≡_, refl}
-use Prim.Native.Nat.{ℕ, suc, _<_}
+use Prim.Native.Nat.{ℕ, zero, suc, _+_, _-_, _≤_, _<_}
+use native.Mathlib.Nat.{zero-add, suc-add}
 use native.Mathlib.Omega.{arith}
 use lib.ListN.{length}
 use Rattle.lists.proofs.Tests.{reaches-row, reaches-at}
@@ -47,3 +49,18 @@ module _ {g : Graph} {source : ℕ} where
   -- the source's distance is 0
   pub distance-source : Distance g source source 0
   distance-source = record { walk = stay; least = λ k w. omega arith }
+
+  -- a shortest path is one up to its last link too
+  distance-before : {v d : ℕ} → Distance g source v (suc d) → (u : ℕ) × Distance g source u d
+  distance-before {d = d} far =
+      let last = walk-last (far .walk) d refl in
+      (last .before, record { walk = last .walk; least = λ k w. omega (arith, far .least (suc k) (onward w (last .edge))) })
+
+  -- so there is a vertex j links nearer
+  distance-nearer : (j d : ℕ) {v : ℕ} → Distance g source v (j + d) → (u : ℕ) × Distance g source u d
+  distance-nearer zero d {v} far = (v, rw (zero-add d) at far)
+  distance-nearer (suc j) d far = distance-nearer j d (distance-before (rw (suc-add j d) at far) .1)
+
+  -- and one of each layer up to a vertex's own
+  pub distance-up-to : {v d : ℕ} → Distance g source v d → (h : ℕ) → h ≤ d → (u : ℕ) × Distance g source u h
+  distance-up-to {d = d} far h low = let more : d ≡ (d - h) + h = omega arith in distance-nearer (d - h) h (rw more at far)

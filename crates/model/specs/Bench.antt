@@ -8,16 +8,16 @@ use Rattle.pennant.specs.Bag.{splitFirst, splitSecond}
 use Rattle.pennant.specs.Held.{size, upTo}
 use Rattle.model.specs.Call.{Lent, Outcome, outcomeOfSearch}
 
--- a search of a file given by its words, with distances and parents of so many places;
+-- a search of a file given by its words, with distances, parents and counts of so many places;
 -- or a split of a bag of so many numbers
 pub data Case : Type 0 where
   searching : (words : List ℕ) (source P : ℕ) (schedule : List ℕ) (places : ℕ) → Case
   splitting : (elements : ℕ) → Case
 
--- line one of the output, then distances and parents as the lists hold them;
+-- line one of the output, then distances, parents and counts as the lists hold them;
 -- or the sizes of the bags that a split leaves and gives
 pub data Expected : Type 0 where
-  answers : (number used effective layer : ℕ) (distances parents : List ℕ) → Expected
+  answers : (number used effective layer : ℕ) (distances parents histogram : List ℕ) → Expected
   sizes : (first second : ℕ) → Expected
 
 -- lists that are long enough for every case that gets as far as 20, with 7 in every place
@@ -30,16 +30,17 @@ lentFor places =
       marks = nine;
       distances = replicate places 7;
       parents = replicate places 7;
+      histogram = replicate places 7;
       left = nine;
       right = nine;
       values = nine;
     }
 
--- what a search answers, and the distances and parents at exit
+-- what a search answers, and distances, parents and counts at exit
 unfoldable pub answersOf : Outcome → Expected
 answersOf o =
     answers (o .answer .number) (o .answer .used) (o .answer .effective) (o .answer .layer)
-    (o .lent .distances) (o .lent .parents)
+    (o .lent .distances) (o .lent .parents) (o .lent .histogram)
 
 -- the outcome of a case
 unfoldable pub outcomeOfCase : Case → Expected
@@ -57,17 +58,22 @@ scheduleA event18 event19 =
 abbrev pub scheduleC : List ℕ
 scheduleC = 0 ∷ 192 ∷ []
 
--- a refusal: zeros beside its number, and the one place of distances and parents as it was
+-- a refusal: zeros beside its number, and the one place of distances, parents and counts as it was
 abbrev pub refused : ℕ → Expected
-refused number = answers number 0 0 0 (7 ∷ []) (7 ∷ [])
+refused number = answers number 0 0 0 (7 ∷ []) (7 ∷ []) (7 ∷ [])
 
 -- the table: A, B, C and D; then E to I; then J (§14.2)
 unfoldable pub benchTable : List (Case × Expected)
-benchTable =
-    (searching wordsA 0 2 (scheduleA 8 0) 4, answers 0 25 25 2 (0 ∷ 1 ∷ 1 ∷ 2 ∷ []) (0 ∷ 0 ∷ 0 ∷ 1 ∷ []))
-    ∷ (searching wordsA 0 2 (scheduleA 0 8) 4, answers 0 25 25 2 (0 ∷ 1 ∷ 1 ∷ 2 ∷ []) (0 ∷ 0 ∷ 0 ∷ 2 ∷ []))
-    ∷ (searching wordsC 0 1 scheduleC 1, answers 0 2 2 0 (0 ∷ []) (0 ∷ []))
-    ∷ (searching wordsC 0 1 [] 1, answers 21 0 0 0 (0 ∷ []) (0 ∷ []))
+benchTable = (
+  searching wordsA 0 2 (scheduleA 8 0) 4,
+  answers 0 25 25 2 (0 ∷ 1 ∷ 1 ∷ 2 ∷ []) (0 ∷ 0 ∷ 0 ∷ 1 ∷ []) (1 ∷ 2 ∷ 1 ∷ 0 ∷ []),
+)
+    ∷ (
+      searching wordsA 0 2 (scheduleA 0 8) 4,
+      answers 0 25 25 2 (0 ∷ 1 ∷ 1 ∷ 2 ∷ []) (0 ∷ 0 ∷ 0 ∷ 2 ∷ []) (1 ∷ 2 ∷ 1 ∷ 0 ∷ []),
+    )
+    ∷ (searching wordsC 0 1 scheduleC 1, answers 0 2 2 0 (0 ∷ []) (0 ∷ []) (1 ∷ []))
+    ∷ (searching wordsC 0 1 [] 1, answers 21 0 0 0 (0 ∷ []) (0 ∷ []) (1 ∷ []))
     ∷ (searching wordsE 0 1 scheduleC 1, refused 6)
     ∷ (searching wordsF 0 1 scheduleC 1, refused 5)
     ∷ (searching wordsG 0 1 scheduleC 1, refused 2)

@@ -14,6 +14,7 @@ use Rattle.graph.specs.Read.{headerRefusals, scanRefusals, chainRefusals, rowsS
 use Rattle.schedule.specs.Check.{scheduleRefusals}
 use Rattle.model.specs.Play.{Run, play}
 use Rattle.model.specs.Words.{wordOf}
+use Rattle.model.specs.Histogram.{recount}
 
 -- the lists that the caller lends
 pub record Lent : Type 0 where
@@ -22,6 +23,7 @@ pub record Lent : Type 0 where
   pub marks : List ℕ
   pub distances : List ℕ
   pub parents : List ℕ
+  pub histogram : List ℕ
   pub left : List ℕ
   pub right : List ℕ
   pub values : List ℕ
@@ -44,6 +46,7 @@ pub record Lengths : Type 0 where
   pub marks : ℕ
   pub distances : ℕ
   pub parents : ℕ
+  pub histogram : ℕ
   pub left : ℕ
   pub right : ℕ
   pub values : ℕ
@@ -56,18 +59,20 @@ lengthsOf lent = record {
   marks = length (lent .marks);
   distances = length (lent .distances);
   parents = length (lent .parents);
+  histogram = length (lent .histogram);
   left = length (lent .left);
   right = length (lent .right);
   values = length (lent .values);
 }
 
 -- "20: a lent list is shorter than its need": "offsets n + 1, targets and marks m, distances and parents n,
--- three node lists P × n + 1 each" (§10.3)
+-- three node lists P × n + 1 each"; "The census list joins the lent lists under number 20", n counts (§10.3)
 unfoldable pub lengthsShort : ℕ → ℕ → ℕ → Lengths → Bool
 lengthsShort n m P lengths =
     rowsShort n m (lengths .offsets) (lengths .targets) (lengths .marks)
     || ltb (lengths .distances) n
     || ltb (lengths .parents) n
+    || ltb (lengths .histogram) n
     || ltb (lengths .left) (nodePlaces n P)
     || ltb (lengths .right) (nodePlaces n P)
     || ltb (lengths .values) (nodePlaces n P)
@@ -116,7 +121,7 @@ sweepsMarks number = plays number || clearsMarks number
 -- the lists at exit: "A refusal .. other than 10 and 21 changes nothing, but with 5 and 6 the first m marks
 -- become 0. Every call that gets past 6 .. writes rows. A run also leaves the first P × n + 1 places of each node
 -- list 0, with 0 and 21 alike. On 21 distances and parents are those written so far. .. Places past the need keep
--- their contents." (§10.4)
+-- their contents." The census "holds the recount with 0 and 21 alike." (§10.4)
 unfoldable pub lentAfter : ℕ → Run → List ℕ → ℕ → Lent → Lent
 lentAfter number r file P lent =
     let g = graphOf file in
@@ -128,6 +133,7 @@ lentAfter number r file P lent =
       marks = cond (sweepsMarks number) (overlay (replicate (edgeCount file) 0) (lent .marks)) (lent .marks);
       distances = rewritten (map wordOf (r .state .labels .distances)) (lent .distances);
       parents = rewritten (map wordOf (r .state .labels .parents)) (lent .parents);
+      histogram = rewritten (recount (r .state .labels .distances)) (lent .histogram);
       left = rewritten nodes (lent .left);
       right = rewritten nodes (lent .right);
       values = rewritten nodes (lent .values);

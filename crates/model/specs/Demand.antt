@@ -17,6 +17,7 @@ use Rattle.model.specs.Paths.{Distance, distanceOf, parentOf, RightResul
 use Rattle.model.specs.State.{free, Worker, State, workerAt, openingLabels}
 use Rattle.model.specs.Play.{play, stateAt, metAt, rounds, eventBound}
 use Rattle.model.specs.Serial.{Serial}
+use Rattle.model.specs.Histogram.{countsAt, Counts}
 
 -- what is asked: targets and source below n, "P 1 to 8", and a schedule of well-formed bytes;
 -- each follows from acceptance by document 01
@@ -104,5 +105,10 @@ pub record Demand (g : Graph) (source P : ℕ) (schedule : List ℕ) : Type 0 wh
   pub used-spent : play g source P schedule .state .finished ≡ false → play g source P schedule .used ≡ length schedule
   pub used-finished : play g source P schedule .state .finished ≡ true
       → Finisher g source P schedule (play g source P schedule .used)
+  -- (g) the counts as they are kept: "It must equal a recount of the distance list after each event", and what they
+  -- tell (§7.9)
+  pub census : (k : ℕ) → k ≤ length schedule
+      → Counts (stateAt g source P schedule k .labels .distances) (stateAt g source P schedule k .layer)
+      (countsAt g source P schedule k)
   -- for the engine's lists, at every moment
   pub fitting : (k : ℕ) → Fitting g P (stateAt g source P schedule k)

@@ -1,5 +1,5 @@
--- The opening: the labels that are written, the new pool of nodes, and the source in its bag.
-use mathlib.Core.Path.{_≡_, ap, ap₂, _∙_}
+-- The opening: the labels and counts that are written, the new pool of nodes, and the source in its bag.
+use mathlib.Core.Path.{_≡_, sym, ap, ap₂, _∙_}
 use mathlib.Core.List.{List, [], _∷_, _++_, map}
 use mathlib.Core.Option.{Option, none, some}
 use Prim.Native.Nat.{ℕ, _*_, _≤_, _<_}
@@ -21,21 +21,23 @@ use Rattle.bag.proofs.HeldFacts.{held-none}
 use Rattle.model.specs.State.{openingLabels}
 use Rattle.model.specs.Call.{nodePlaces}
 use Rattle.model.specs.Words.{optionOf, labelsOf}
+use Rattle.model.specs.Histogram.{recount}
 use Rattle.opening.specs.Opening.{Sized, FirstLayer}
 use Rattle.model.proofs.WordFacts.{word-set, word-unset}
+use Rattle.model.proofs.HistogramFacts.{recount-opening}
 
--- The labels.
+-- Labels and counts.
 
--- one of the two lists: unset but for the source
-pub labelled : (n source x : ℕ) (l : List ℕ) {filled stored : List ℕ} (count : ℕ) → length l ≡ n → count ≡ length l
-    → filled ≡ overlay (replicate count unset) l → stored ≡ set filled source x
-    → stored ≡ set (replicate n unset) source x
-labelled n source x l count long all fill store =
+-- a list with the same word in all places but one
+pub filled-but-one : (word n i x : ℕ) (l : List ℕ) {filled stored : List ℕ} (count : ℕ) → length l ≡ n → count ≡ length l
+    → filled ≡ overlay (replicate count word) l → stored ≡ set filled i x
+    → stored ≡ set (replicate n word) i x
+filled-but-one word n i x l count long all fill store =
     store
-    ∙ ap (λ (k : List ℕ). set k source x)
-    (fill ∙ ap (λ (k : ℕ). overlay (replicate k unset) l) all ∙ overlay-whole l unset ∙ ap (λ (k : ℕ). replicate k unset) long)
+    ∙ ap (λ (k : List ℕ). set k i x)
+    (fill ∙ ap (λ (k : ℕ). overlay (replicate k word) l) all ∙ overlay-whole l word ∙ ap (λ (k : ℕ). replicate k word) long)
 
--- it stands for the model's
+-- one of the two lists of labels stands for the model's
 label-shown : (n source x : ℕ) → x < unset → map optionOf (set (replicate n unset) source x) ≡ set (replicate n none) source (some x)
 label-shown n source x small =
     map-set optionOf (replicate n unset) source x
@@ -49,6 +51,13 @@ unfolding labelsOf openingLabels
 labels-shown n source small first second =
     ap₂ (λ (a b : List (Option ℕ)). record { distances = a; parents = b })
     (ap (map optionOf) first ∙ label-shown n source 0 (omega arith)) (ap (map optionOf) second ∙ label-shown n source source small)
+
+-- 1 at distance 0 is a recount of them
+counts-shown : (n source : ℕ) {distances histogram : List ℕ} → source < n → distances ≡ set (replicate n unset) source 0
+    → histogram ≡ set (replicate n 0) 0 1
+    → histogram ≡ recount (map optionOf distances)
+counts-shown n source small first counted =
+    counted ∙ sym (ap (λ (l : List ℕ). recount (map optionOf l)) first ∙ ap recount (label-shown n source 0 (omega arith)) ∙ recount-opening n source small)
 
 -- The nodes.
 
@@ -64,7 +73,8 @@ pub nodes-word : {P n m : ℕ} → P ≤ maxWorkers → n ≤ maxVertices → m 
 nodes-word {P} p q same = let product = ap (λ (k : ℕ). P * k) same in omega (arith, nodes-few p q)
 
 -- the new pool
-module _ {P source : ℕ} {distances parents left left′ right values : List ℕ} {none : declared.Bag} (sized : Sized P distances parents left right values)
+module _ {P source : ℕ} {distances parents histogram left left′ right values : List ℕ} {none : declared.Bag}
+    (sized : Sized P distances parents histogram left right values)
     (some-vertex : source < length distances) (m : ℕ) (same : m ≡ length distances)
     (chained : left′ ≡ overlay (numbersFrom 1 (P * m) ++ 0 ∷ []) left) (long : length left′ ≡ length left) (empty : none ≡ newBag) where
   -- how many nodes
@@ -88,11 +98,14 @@ module _ {P source : ℕ} {distances parents left left′ right values : List �
   new-room = free-some left′ (omega (arith, free-count left′ nodes all-free, mul-le-mul (sized .some-worker) some-vertex))
 
   -- after the source is inserted
-  pub new-opened : {distances′ parents′ left″ right″ values″ : List ℕ} {bag : declared.Bag} → distances′ ≡ set (replicate (length distances) unset) source 0
-      → parents′ ≡ set (replicate (length distances) unset) source source → Inserted left′ right values none source left″ right″ values″ bag
-      → FirstLayer P source distances distances′ parents′ left″ right″ values″ bag
-  new-opened first second inserted = record {
+  pub new-opened : {distances′ parents′ histogram′ left″ right″ values″ : List ℕ} {bag : declared.Bag}
+      → distances′ ≡ set (replicate (length distances) unset) source 0 → parents′ ≡ set (replicate (length distances) unset) source source
+      → histogram′ ≡ set (replicate (length histogram) 0) 0 1 → Inserted left′ right values none source left″ right″ values″ bag
+      → FirstLayer P source distances distances′ parents′ histogram′ left″ right″ values″ bag
+  new-opened first second counted inserted = record {
     labels = labels-shown (length distances) source (omega (arith, sized .few-vertices)) first second;
+    counts =
+        counts-shown (length distances) source some-vertex first (counted ∙ ap (λ (k : ℕ). set (replicate k 0) 0 1) (sized .histogram-all));
     held = inserted .held ∙ ap (bagInsert source) (ap (heldBy left′ right values) empty ∙ held-none left′ right values);
     pool = moved-pool new-pool (inserted .moved);
     whole =

@@ -1,5 +1,5 @@
-// The opening of a search: the labels of the source alone, a new pool of nodes, and the source in a
-// bag. `open` is an inner step: it requires lists that are as long as their needs.
+// The opening of a search: the labels of the source alone, their counts, a new pool of nodes, and the
+// source in a bag. `open` is an inner step: it requires lists that are as long as their needs.
 ghost use mathlib.Core.Path.{_≡_};
 ghost use Prim.Native.Nat.{_<_};
 ghost use lib.ListN.{length, set, replicate};
@@ -15,18 +15,20 @@ pub fn open(
     workers: usize,
     distances: &mut [u16],
     parents: &mut [u16],
+    histogram: &mut [u16],
     left: &mut [u16],
     right: &mut [u16],
     values: &mut [u16],
 ) -> Bag
     requires { ⌜ source < length (now distances) ⌝ }
-    requires { ⌜ Sized workers (now distances) (now parents) (now left) (now right) (now values) ⌝ }
+    requires { ⌜ Sized workers (now distances) (now parents) (now histogram) (now left) (now right) (now values) ⌝ }
     ensures { λ r. ⌜
         FirstLayer workers source (now (distances .entry)) (now (distances .exit)) (now (parents .exit))
-        (now (left .exit)) (now (right .exit)) (now (values .exit)) r
+        (now (histogram .exit)) (now (left .exit)) (now (right .exit)) (now (values .exit)) r
         ⌝ }
 {
     label(source, distances, parents);
+    count(histogram);
     bag::pool(left, workers * distances.len());
     bag::insert(bag::empty(), source, left, right, values)
 }
@@ -42,4 +44,13 @@ fn label(source: u16, distances: &mut [u16], parents: &mut [u16])
     lists::fill(parents, parents.len(), numbers::UNSET);
     put(distances, source, 0);
     put(parents, source, source);
+}
+
+// The counts of the opening: 1 at distance 0, the source; "is written when the run begins".
+fn count(histogram: &mut [u16])
+    requires { ⌜ 0 < length (now histogram) ⌝ }
+    ensures { λ _. ⌜ now (histogram .exit) ≡ set (replicate (length (now (histogram .entry))) 0) 0 1 ⌝ }
+{
+    lists::clear(histogram, histogram.len());
+    put(histogram, 0, 1);
 }

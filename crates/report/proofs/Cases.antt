@@ -20,6 +20,7 @@ use Rattle.model.specs.Play.{tally, step, playFrom, play}
 use Rattle.model.specs.Call.{lengthsShort, earlyRefusals, runOf, inputRefusals, searchRefusals, searchNumber}
 use Rattle.model.specs.Call.{plays, answerBy, sweepsMarks, lentAfter, outcomeOfSearch}
 use Rattle.model.specs.Words.{wordOf}
+use Rattle.model.specs.Histogram.{recount}
 use Rattle.report.specs.Input.{sourceIn, workersIn, eventsIn, scheduleIn, fileIn, sizesRefusals, ownRefusals, programLists}
 use Rattle.report.specs.Lines.{firstLine, vertexLine, vertexLines}
 use Rattle.report.specs.Respond.{searched, lines, response}
@@ -32,7 +33,7 @@ unfolding first overlay chainFrom numbersFrom sumsFrom elem repeats lacks reache
     chainRefusals rowsShort clearsMarks bytesOf pennantUnion pennantFirst pennantSecond emptyBag insertPennant bagInsert insertFilled adderSum
     adderCarry addFrom bagUnion splitFirst splitSecond spread takeFrom takeRest takenNumber isEmpty atLeastTwo formOf eventOf within anyStray
     scheduleRefusals openingLabels openingState holdAt look mark name move afterMove splitInputs uniteOutputs isFree allIdle unitedOutputs closed
-    act tally step playFrom play lengthsShort earlyRefusals runOf inputRefusals searchRefusals searchNumber plays answerBy wordOf sweepsMarks
+    act tally step playFrom play lengthsShort earlyRefusals runOf inputRefusals searchRefusals searchNumber plays answerBy wordOf recount sweepsMarks
     lentAfter outcomeOfSearch sourceIn workersIn eventsIn scheduleIn fileIn sizesRefusals ownRefusals programLists decimalIn decimal labelText
     firstLine vertexLine vertexLines searched lines response inputOf
 program-cases = (refl, refl)

@@ -71,6 +71,7 @@ programLists = record {
   marks = replicate programEdges 0;
   distances = replicate programVertices 0;
   parents = replicate programVertices 0;
+  histogram = replicate programVertices 0;
   left = replicate programNodes 0;
   right = replicate programNodes 0;
   values = replicate programNodes 0;

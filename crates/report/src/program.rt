@@ -34,6 +34,7 @@ fn search_and_print(input: &[u8], output: &mut [u8]) -> usize
     let mut marks = [0u16; 2048];
     let mut distances = [0u16; 512];
     let mut parents = [0u16; 512];
+    let mut histogram = [0u16; 512];
     let mut left = [0u16; 4097];
     let mut right = [0u16; 4097];
     let mut values = [0u16; 4097];
@@ -47,6 +48,7 @@ fn search_and_print(input: &[u8], output: &mut [u8]) -> usize
         &mut marks,
         &mut distances,
         &mut parents,
+        &mut histogram,
         &mut left,
         &mut right,
         &mut values,

@@ -1,7 +1,8 @@
-// Calls of `search::search`, each compared with what it must answer and leave. The eight lists may
-// be longer than what is lent of them. What distances and parents hold after a search is left to
-// the caller.
+// Calls of `search::search`, each compared with what it must answer and leave. The nine lists may be
+// longer than what is lent of them. What distances and parents hold after a search is left to the
+// caller; the counts must be those of the distances.
 use search::Answer;
+use searchkit::census::is_census;
 use searchkit::compare::are_labels_kept;
 use searchkit::compare::are_nodes_cleared;
 use searchkit::compare::is_left;
@@ -23,6 +24,7 @@ fn search_at(
     marks: &mut [u16],
     distances: &mut [u16],
     parents: &mut [u16],
+    histogram: &mut [u16],
     left: &mut [u16],
     right: &mut [u16],
     values: &mut [u16],
@@ -35,6 +37,7 @@ fn search_at(
     let k = prefix(marks, lengths.marks);
     let d = prefix(distances, lengths.distances);
     let p = prefix(parents, lengths.parents);
+    let h = prefix(histogram, lengths.histogram);
     let l = prefix(left, lengths.left);
     let r = prefix(right, lengths.right);
     let x = prefix(values, lengths.values);
@@ -48,6 +51,7 @@ fn search_at(
         &mut marks[..k],
         &mut distances[..d],
         &mut parents[..p],
+        &mut histogram[..h],
         &mut left[..l],
         &mut right[..r],
         &mut values[..x],
@@ -64,8 +68,33 @@ fn seen_of(answer: Answer) -> Seen {
     }
 }
 
-// Searches, and compares all lists but the first n labels of a search that was played. `rows` and
-// `row_targets` are the rows of the file.
+// Whether all lists are as the answer says, but the first n labels of a search that was played; its
+// counts must be those of the distances.
+fn are_left(
+    seen: Seen,
+    request: Request,
+    rows: &[u16],
+    row_targets: &[u16],
+    offsets: &[u16],
+    targets: &[u16],
+    marks: &[u16],
+    distances: &[u16],
+    parents: &[u16],
+    histogram: &[u16],
+    left: &[u16],
+    right: &[u16],
+    values: &[u16],
+) -> bool {
+    let same = is_left(seen, request, offsets, targets, marks, rows, row_targets);
+    let first = labelled(seen.number, request.vertices);
+    let labels = are_labels_kept(distances, parents, histogram, first);
+    let counts = is_census(distances, histogram, first);
+    let count = used_nodes(seen.number, request.vertices, request.workers);
+    let nodes = are_nodes_cleared(left, right, values, count);
+    same & labels & counts & nodes
+}
+
+// Searches, and compares. `rows` and `row_targets` are the rows of the file.
 pub fn call(
     file: &[u8],
     schedule: &[u8],
@@ -77,6 +106,7 @@ pub fn call(
     marks: &mut [u16],
     distances: &mut [u16],
     parents: &mut [u16],
+    histogram: &mut [u16],
     left: &mut [u16],
     right: &mut [u16],
     values: &mut [u16],
@@ -90,16 +120,28 @@ pub fn call(
         marks,
         distances,
         parents,
+        histogram,
         left,
         right,
         values,
     ));
-    let same = is_left(seen, request, offsets, targets, marks, rows, row_targets);
-    let labels = are_labels_kept(distances, parents, labelled(seen.number, request.vertices));
-    let count = used_nodes(seen.number, request.vertices, request.workers);
-    let nodes = are_nodes_cleared(left, right, values, count);
+    let is_right = are_left(
+        seen,
+        request,
+        rows,
+        row_targets,
+        offsets,
+        targets,
+        marks,
+        distances,
+        parents,
+        histogram,
+        left,
+        right,
+        values,
+    );
     Outcome {
         seen,
-        right: same & labels & nodes,
+        right: is_right,
     }
 }

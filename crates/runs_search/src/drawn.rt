@@ -1,6 +1,7 @@
 // Searches of drawn graphs under drawn schedules, judged by a queue search of the same graph.
 use crate::rooms;
 use searchkit::compare::DISTANCES_TAG;
+use searchkit::compare::HISTOGRAM_TAG;
 use searchkit::compare::PARENTS_TAG;
 use searchkit::events;
 use searchkit::plans::Plan;
@@ -26,6 +27,7 @@ fn outcome_of(
     row_targets: &[u16],
     distances: &mut [u16],
     parents: &mut [u16],
+    histogram: &mut [u16],
 ) -> Outcome {
     if (request.vertices <= 40) & (request.edges <= 110) {
         rooms::small(
@@ -36,6 +38,7 @@ fn outcome_of(
             row_targets,
             distances,
             parents,
+            histogram,
         )
     } else {
         rooms::large(
@@ -46,12 +49,13 @@ fn outcome_of(
             row_targets,
             distances,
             parents,
+            histogram,
         )
     }
 }
 
 // Searches and judges. A call that was refused is judged by its number alone, by the caller.
-fn searched(
+pub fn searched(
     file: &[u8],
     schedule: &[u8],
     plan: Plan,
@@ -61,6 +65,7 @@ fn searched(
 ) -> Report {
     let mut distances = [DISTANCES_TAG; 4102];
     let mut parents = [PARENTS_TAG; 4102];
+    let mut histogram = [HISTOGRAM_TAG; 4102];
     let request = request_of(plan, lengths);
     let done = outcome_of(
         file,
@@ -70,6 +75,7 @@ fn searched(
         row_targets,
         &mut distances,
         &mut parents,
+        &mut histogram,
     );
     let seen = done.seen;
     if !is_played(seen.number) {

@@ -1,9 +1,13 @@
 // The groups that are tables or draws: one loop goes through the cases of a group.
+use crate::census;
 use crate::drawn;
 use crate::tables;
 use libc::STDOUT_FILENO;
+use searchkit::beginnings;
 use searchkit::bench;
+use searchkit::fans;
 use searchkit::faults;
+use searchkit::paths;
 use searchkit::random_plans;
 use searchkit::refusals;
 use searchkit::requests::Report;
@@ -22,6 +26,12 @@ const RANDOM_GROUP: u16 = 3;
 const SIZE_GROUP: u16 = 4;
 
 const BENCH_GROUP: u16 = 5;
+
+const FAN_GROUP: u16 = 6;
+
+const CUT_GROUP: u16 = 7;
+
+const PATH_GROUP: u16 = 8;
 
 // A group's tally, how many of its searches were finished, the sums of what was answered, and a
 // number made of all labels.
@@ -53,8 +63,22 @@ fn with(sums: Sums, report: Report) -> Sums {
     }
 }
 
+// A case of a group of the census.
+fn census_report(group: u16, case: u16) -> Report {
+    if group == FAN_GROUP {
+        return census::fan_report(case);
+    }
+    if group == CUT_GROUP {
+        return census::cut_report(case);
+    }
+    census::path_report(case)
+}
+
 // A case of a group.
 fn report_of(group: u16, case: u16) -> Report {
+    if group >= FAN_GROUP {
+        return census_report(group, case);
+    }
     if group == REFUSAL_GROUP {
         return tables::refusals_report(case);
     }
@@ -127,4 +151,7 @@ pub fn run() {
     );
     print_sums(RANDOM_GROUP, random_plans::ROUNDS, b"random schedules");
     print_sums(SIZE_GROUP, sizes::ROWS, b"sizes");
+    print(FAN_GROUP, fans::CASES, b"census of fans");
+    print(CUT_GROUP, beginnings::CASES, b"census after each byte");
+    print(PATH_GROUP, paths::CASES, b"census of a path");
 }

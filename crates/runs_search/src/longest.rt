@@ -1,6 +1,7 @@
 // The longest schedule, which finishes the search with its last byte; and one that is too long.
 use crate::rooms;
 use searchkit::compare::DISTANCES_TAG;
+use searchkit::compare::HISTOGRAM_TAG;
 use searchkit::compare::PARENTS_TAG;
 use searchkit::requests::Request;
 use searchkit::requests::Seen;
@@ -15,6 +16,7 @@ const MOST: usize = 5000000;
 fn answer_to(schedule: &[u8], length: usize) -> Seen {
     let mut distances = [DISTANCES_TAG; 4];
     let mut parents = [PARENTS_TAG; 4];
+    let mut histogram = [HISTOGRAM_TAG; 4];
     let request = Request {
         source: 0,
         workers: 1,
@@ -32,6 +34,7 @@ fn answer_to(schedule: &[u8], length: usize) -> Seen {
         &[],
         &mut distances,
         &mut parents,
+        &mut histogram,
     );
     if done.right {
         return done.seen;

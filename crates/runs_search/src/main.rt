@@ -1,7 +1,8 @@
 // Runs `search::search` on document 01's cases, on inputs for every number of refusal, and on drawn
-// graphs under drawn schedules, and writes a line for each group: how many cases it had, and how
-// many went wrong. Crate `searchkit` has the inputs and what they must give.
+// graphs under drawn schedules, whole and cut, and writes a line for each group: how many cases it
+// had, and how many went wrong. Crate `searchkit` has the inputs and what they must give.
 mod calls;
+mod census;
 mod drawn;
 mod groups;
 mod longest;

@@ -1,5 +1,5 @@
-// Calls with lists of two sizes. Distances and parents come from the caller, with `DISTANCES_TAG` and
-// `PARENTS_TAG` at all places.
+// Calls with lists of two sizes. Distances, parents and counts come from the caller, with
+// `DISTANCES_TAG`, `PARENTS_TAG` and `HISTOGRAM_TAG` at all places.
 use crate::calls::call;
 use searchkit::compare::LEFT_TAG;
 use searchkit::compare::MARKS_TAG;
@@ -19,6 +19,7 @@ pub fn large(
     row_targets: &[u16],
     distances: &mut [u16],
     parents: &mut [u16],
+    histogram: &mut [u16],
 ) -> Outcome {
     let mut offsets = [OFFSETS_TAG; 4102];
     let mut targets = [TARGETS_TAG; 32773];
@@ -37,6 +38,7 @@ pub fn large(
         &mut marks,
         distances,
         parents,
+        histogram,
         &mut left,
         &mut right,
         &mut values,
@@ -52,6 +54,7 @@ pub fn small(
     row_targets: &[u16],
     distances: &mut [u16],
     parents: &mut [u16],
+    histogram: &mut [u16],
 ) -> Outcome {
     let mut offsets = [OFFSETS_TAG; 48];
     let mut targets = [TARGETS_TAG; 118];
@@ -70,6 +73,7 @@ pub fn small(
         &mut marks,
         distances,
         parents,
+        histogram,
         &mut left,
         &mut right,
         &mut values,

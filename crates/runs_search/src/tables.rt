@@ -7,6 +7,7 @@ use searchkit::base::code;
 use searchkit::bench;
 use searchkit::bench::is_answer;
 use searchkit::compare::DISTANCES_TAG;
+use searchkit::compare::HISTOGRAM_TAG;
 use searchkit::compare::PARENTS_TAG;
 use searchkit::faults;
 use searchkit::refusals;
@@ -15,9 +16,9 @@ use searchkit::requests::Request;
 use searchkit::requests::is_played;
 use testkit::files::put_words;
 
-// Whether the call answers the number and leaves the lists as it must; of the labels it gives the
-// code.
-fn called(
+// Whether the call answers the number and leaves the lists as it must; of the labels and the counts it
+// gives the code.
+pub fn called(
     file: &[u8],
     schedule: &[u8],
     rows: &[u16],
@@ -27,6 +28,7 @@ fn called(
 ) -> Report {
     let mut distances = [DISTANCES_TAG; 24];
     let mut parents = [PARENTS_TAG; 24];
+    let mut histogram = [HISTOGRAM_TAG; 24];
     let done = rooms::small(
         file,
         schedule,
@@ -35,11 +37,12 @@ fn called(
         row_targets,
         &mut distances,
         &mut parents,
+        &mut histogram,
     );
     let seen = done.seen;
     Report {
         seen,
-        digest: code(&distances, &parents),
+        digest: code(&distances, &parents, &histogram),
         right: done.right & (seen.number == number as usize),
     }
 }
@@ -57,14 +60,14 @@ fn called_square(file: &[u8], schedule: &[u8], request: Request, number: u16) ->
 }
 
 // A, or B with its events swapped: the distances are 0, 1, 1 and 2, the parents 0, 0, 0 and 1, with
-// B 2.
+// B 2, and the counts 1, 2, 1 and 0.
 fn square(is_swapped: bool) -> Report {
     let mut file = [0u8; 28];
     let mut schedule = SCHEDULE;
     put_words(&mut file, &FILE);
     bench::make_square(&mut schedule, is_swapped);
     let report = called_square(&file, &schedule, bench::square(), 0);
-    let labels = if is_swapped { 1120002 } else { 1120001 };
+    let labels = if is_swapped { 11200021210 } else { 11200011210 };
     let seen = report.seen;
     Report {
         seen,
@@ -73,7 +76,7 @@ fn square(is_swapped: bool) -> Report {
     }
 }
 
-// C to I: a search of one vertex that is played gives it the distance 0 and the parent 0.
+// C to I: a search of one vertex that is played gives it the distance 0 and the parent 0, and counts it.
 fn point(row: u16) -> Report {
     let mut file = [0u8; 10];
     let mut schedule = [0u8; 2];
@@ -82,7 +85,7 @@ fn point(row: u16) -> Report {
     let number = bench::cell(row, 10);
     let report = called(&file, &schedule, &[0, 0], &[], bench::point(row), number);
     let seen = report.seen;
-    let labels = (report.digest == 1110222) == is_played(seen.number);
+    let labels = (report.digest == 11102221333) == is_played(seen.number);
     Report {
         seen,
         digest: 0,

@@ -79,7 +79,7 @@ module _ (file : List ℕ) (source P : ℕ) (schedule : List ℕ) (lent : Lent) 
   -- the outcome of a refusal, with these marks
   abbrev refusedExit : ℕ → List ℕ → Outcome
   refusedExit k marks = searchExit (refusedWith k)
-      (lentLists (lent .offsets) (lent .targets) marks (lent .distances) (lent .parents) (lent .left) (lent .right) (lent .values))
+      (lentLists (lent .offsets) (lent .targets) marks (lent .distances) (lent .parents) (lent .histogram) (lent .left) (lent .right) (lent .values))
 
   -- a number that plays nothing has that outcome
   refused-outcome : {k : ℕ} (b : Bool) {marks : List ℕ} → number ≡ k → plays k ≡ false → elem k (repeated ∷ unreached ∷ []) ≡ b
@@ -118,7 +118,7 @@ module _ (file : List ℕ) (source P : ℕ) (schedule : List ℕ) (lent : Lent) 
           (walked : Unchained file (head .edges) k (lent .offsets) (lent .targets) (lent .marks) offsets′ targets′ marks′) where
         -- a refusal of the chains
         pub search-chains : {r : Answer} → (k ≡ 0 → ⊥) → r ≡ refusedWith k
-            → searchExit r (lentLists offsets′ targets′ marks′ (lent .distances) (lent .parents) (lent .left) (lent .right) (lent .values))
+            → searchExit r (lentLists offsets′ targets′ marks′ (lent .distances) (lent .parents) (lent .histogram) (lent .left) (lent .right) (lent .values))
             ≡ outcomeOfSearch file source P schedule lent
         search-chains h e =
             let same = walked .judged in
@@ -128,7 +128,7 @@ module _ (file : List ℕ) (source P : ℕ) (schedule : List ℕ) (lent : Lent) 
             let starts = starts-kept (told .scanned) walked h in
             let ends = ends-kept (told .scanned) walked h in
             (λ i. searchExit ((e ∙ ap refusedWith same) i)
-            (lentLists (starts i) (ends i) marks′ (lent .distances) (lent .parents) (lent .left) (lent .right) (lent .values)))
+            (lentLists (starts i) (ends i) marks′ (lent .distances) (lent .parents) (lent .histogram) (lent .left) (lent .right) (lent .values)))
             ∙ refused-outcome true all (none .0) (none .1) (marks-clear (told .scanned) walked)
 
         module _ (whole : k ≡ 0) where
@@ -137,8 +137,8 @@ module _ (file : List ℕ) (source P : ℕ) (schedule : List ℕ) (lent : Lent) 
           input-passed = ap first input-parts ∙ first-append early (chainRefusals file) (early-positive file source P schedule lent) (told .none) ∙ sym (walked .judged) ∙ whole
 
           -- a run may start
-          pub search-playable : Playable (head .vertices) (head .edges) source P schedule offsets′ targets′ (lent .distances) (lent .parents) (lent .left)
-              (lent .right) (lent .values)
+          pub search-playable : Playable (head .vertices) (head .edges) source P schedule offsets′ targets′ (lent .distances) (lent .parents) (lent .histogram)
+              (lent .left) (lent .right) (lent .values)
           search-playable =
               let long = told .long in
               record {
@@ -149,16 +149,17 @@ module _ (file : List ℕ) (source P : ℕ) (schedule : List ℕ) (lent : Lent) 
                 targets-there = ends-there (told .scanned) walked whole;
                 distances-there = long .distances-there;
                 parents-there = long .parents-there;
+                histogram-there = long .histogram-there;
                 left-there = long .left-there;
                 right-there = long .right-there;
                 values-there = long .values-there;
               }
 
           -- a run was played
-          pub search-played : {distances′ parents′ left′ right′ values′ : List ℕ} {r : Answer}
+          pub search-played : {distances′ parents′ histogram′ left′ right′ values′ : List ℕ} {r : Answer}
               → PlayedOut (play (rowsOf (take (head .vertices + 1) offsets′) (take (head .edges) targets′)) source P schedule) (nodePlaces (head .vertices) P)
-              (lent .distances) (lent .parents) (lent .left) (lent .right) (lent .values) distances′ parents′ left′ right′ values′ r
-              → searchExit r (lentLists offsets′ targets′ marks′ distances′ parents′ left′ right′ values′) ≡ outcomeOfSearch file source P schedule lent
+              (lent .distances) (lent .parents) (lent .histogram) (lent .left) (lent .right) (lent .values) distances′ parents′ histogram′ left′ right′ values′ r
+              → searchExit r (lentLists offsets′ targets′ marks′ distances′ parents′ histogram′ left′ right′ values′) ≡ outcomeOfSearch file source P schedule lent
           unfolding runOf
           search-played out =
               let out′ = rw (rows-graph (told .scanned) walked whole, told .scanned .sized .vertices) at out in
@@ -169,7 +170,7 @@ module _ (file : List ℕ) (source P : ℕ) (schedule : List ℕ) (lent : Lent) 
               let answered = out′ .told .number ∙ sym decided in
               (λ i. record {
                 answer = record { number = answered i; used = out′ .told .used i; effective = out′ .told .effective i; layer = out′ .told .layer i };
-                lent = lentLists (starts i) (ends i) (clear i) (out′ .labelled i) (out′ .named i) (out′ .left-clear i)
-                    (out′ .right-clear i) (out′ .values-clear i);
+                lent = lentLists (starts i) (ends i) (clear i) (out′ .labelled i) (out′ .named i) (out′ .counted i)
+                    (out′ .left-clear i) (out′ .right-clear i) (out′ .values-clear i);
               })
               ∙ sym (call-played file source P schedule lent (ap plays decided ∙ run-plays (runOf file source P schedule .state .finished)))

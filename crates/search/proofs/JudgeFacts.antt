@@ -23,12 +23,12 @@ use Rattle.search.specs.Input.{earlyAnswer}
 
 -- Whether a list is short.
 
--- the first of the six tests that holds decides
-pub short-by : (n m P : ℕ) (lengths : Lengths) {a b c d e f : Bool} → rowsShort n m (lengths .offsets) (lengths .targets) (lengths .marks) ≡ a
-    → ltb (lengths .distances) n ≡ b → ltb (lengths .parents) n ≡ c → ltb (lengths .left) (nodePlaces n P) ≡ d
-    → ltb (lengths .right) (nodePlaces n P) ≡ e → ltb (lengths .values) (nodePlaces n P) ≡ f → (a || b || c || d || e || f) ≡ lengthsShort n m P lengths
+-- the first of the seven tests that holds decides
+pub short-by : (n m P : ℕ) (lengths : Lengths) {a b c d e f g : Bool} → rowsShort n m (lengths .offsets) (lengths .targets) (lengths .marks) ≡ a
+    → ltb (lengths .distances) n ≡ b → ltb (lengths .parents) n ≡ c → ltb (lengths .histogram) n ≡ d → ltb (lengths .left) (nodePlaces n P) ≡ e
+    → ltb (lengths .right) (nodePlaces n P) ≡ f → ltb (lengths .values) (nodePlaces n P) ≡ g → (a || b || c || d || e || f || g) ≡ lengthsShort n m P lengths
 unfolding lengthsShort
-short-by n m P lengths rows far near left right last = rw (rows, far, near, left, right, last)
+short-by n m P lengths rows far near counts left right last = rw (rows, far, near, counts, left, right, last)
 
 -- a list for each need
 pub record Long (n m P : ℕ) (lengths : Lengths) : Type 0 where
@@ -37,6 +37,7 @@ pub record Long (n m P : ℕ) (lengths : Lengths) : Type 0 where
   pub marks-there : m ≤ lengths .marks
   pub distances-there : n ≤ lengths .distances
   pub parents-there : n ≤ lengths .parents
+  pub histogram-there : n ≤ lengths .histogram
   pub left-there : nodePlaces n P ≤ lengths .left
   pub right-there : nodePlaces n P ≤ lengths .right
   pub values-there : nodePlaces n P ≤ lengths .values
@@ -48,11 +49,13 @@ long-lists n m P lengths h =
     let rows = rowsShort n m (lengths .offsets) (lengths .targets) (lengths .marks) in
     let far = ltb (lengths .distances) n in
     let near = ltb (lengths .parents) n in
+    let counts = ltb (lengths .histogram) n in
     let left = ltb (lengths .left) (nodePlaces n P) in
     let right = ltb (lengths .right) (nodePlaces n P) in
-    let e = or-none (rows || far || near || left || right) (ltb (lengths .values) (nodePlaces n P)) h in
-    let d = or-none (rows || far || near || left) right (e .0) in
-    let c = or-none (rows || far || near) left (d .0) in
+    let f = or-none (rows || far || near || counts || left || right) (ltb (lengths .values) (nodePlaces n P)) h in
+    let e = or-none (rows || far || near || counts || left) right (f .0) in
+    let d = or-none (rows || far || near || counts) left (e .0) in
+    let c = or-none (rows || far || near) counts (d .0) in
     let b = or-none (rows || far) near (c .0) in
     let a = or-none rows far (b .0) in
     let three = long-enough n m (lengths .offsets) (lengths .targets) (lengths .marks) (a .0) in
@@ -62,9 +65,10 @@ long-lists n m P lengths h =
       marks-there = three .2;
       distances-there = ltb-false (lengths .distances) n (a .1);
       parents-there = ltb-false (lengths .parents) n (b .1);
-      left-there = ltb-false (lengths .left) (nodePlaces n P) (c .1);
-      right-there = ltb-false (lengths .right) (nodePlaces n P) (d .1);
-      values-there = ltb-false (lengths .values) (nodePlaces n P) (e .1);
+      histogram-there = ltb-false (lengths .histogram) n (c .1);
+      left-there = ltb-false (lengths .left) (nodePlaces n P) (d .1);
+      right-there = ltb-false (lengths .right) (nodePlaces n P) (e .1);
+      values-there = ltb-false (lengths .values) (nodePlaces n P) (f .1);
     }
 
 -- The answer of these tests.

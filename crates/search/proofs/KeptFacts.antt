@@ -3,15 +3,18 @@ use mathlib.Core.Path.{_≡_, refl, sym, ap, _∙_, subst}
 use mathlib.Core.Bool.{Bool, true, false, cond}
 use mathlib.Core.List.{List, map}
 use Prim.Native.Nat.{ℕ, _<_}
+use native.Mathlib.Nat.{le-refl}
 use native.Mathlib.Omega.{arith}
 use lib.ListN.{length, take}
 use lib.Seq.{take-length}
 use Rattle.numbers.specs.Numbers.{unset, success, unfinished}
 use Rattle.lists.specs.Lists.{elem}
+use Rattle.lists.proofs.Overlay.{overlay-front}
 use Rattle.graph.specs.File.{vertexCount, graphOf}
 use Rattle.graph.proofs.FileLists.{length-graph}
 use Rattle.model.specs.State.{State}
 use Rattle.model.specs.Play.{Run, play, stateAt}
+use Rattle.model.specs.Histogram.{recount, countsAt, Counts}
 use Rattle.model.specs.Demand.{Demand, Fitting}
 use Rattle.model.specs.Call.{Lent, Outcome, runOf, searchNumber, plays, outcomeOfSearch}
 use Rattle.model.proofs.Calls.{call-passed, call-sizes, call-demand, call-number, call-rounds, call-played, call-refused, call-effective}
@@ -19,6 +22,7 @@ use Rattle.engine.specs.declared.Answer.{Answer}
 use Rattle.model.specs.Words.{optionOf, labelsOf, labelsIn}
 use Rattle.search.specs.Promise.{searchExit, Kept}
 use Rattle.model.proofs.WordFacts.{laid-back}
+use Rattle.model.proofs.HistogramFacts.{recount-long}
 
 -- Numbers of a run.
 
@@ -75,6 +79,10 @@ module _ (file : List ℕ) (source P : ℕ) (schedule : List ℕ) (lent : Lent) 
       effective : r .effective ≡ run .effective
       effective = ap (λ (o : Outcome). o .answer .effective) (e ∙ call-played file source P schedule lent played)
 
+      -- its d is the run's
+      layered : r .layer ≡ run .state .layer
+      layered = ap (λ (o : Outcome). o .answer .layer) (e ∙ call-played file source P schedule lent played)
+
       -- the state after all bytes is the run's
       all-bytes : stateAt g source P schedule (length schedule) ≡ run .state
       unfolding stateAt
@@ -101,6 +109,21 @@ module _ (file : List ℕ) (source P : ℕ) (schedule : List ℕ) (lent : Lent) 
           ∙ laid-back n (x .parents) (lent .parents) (fitting .parents-all ∙ length-graph file) (λ v d h. low (fitting .parents-below v d h)) in
           λ i. record { distances = far i; parents = near i }
 
+      -- the counts as kept over all bytes tell of the run's labels
+      told : Counts (run .state .labels .distances) (run .state .layer) (countsAt g source P schedule (length schedule))
+      told =
+          subst (λ (s : State). Counts (s .labels .distances) (s .layer) (countsAt g source P schedule (length schedule))) all-bytes
+          (demanded .census (length schedule) (le-refl (length schedule)))
+
+      -- and its list holds them
+      counts : take (vertexCount file) (after .histogram) ≡ countsAt g source P schedule (length schedule)
+      counts =
+          let n = vertexCount file in
+          let far = run .state .labels .distances in
+          ap (λ (o : Outcome). take n (o .lent .histogram)) (e ∙ call-played file source P schedule lent played)
+          ∙ overlay-front (recount far) (lent .histogram) n (recount-long far ∙ fitting .distances-all ∙ length-graph file)
+          ∙ sym (told .recounted)
+
     -- 0 is the number of a call that plays
     pub success-plays : r .number ≡ success → plays (r .number) ≡ true
     unfolding plays elem
@@ -126,7 +149,7 @@ module _ (file : List ℕ) (source P : ℕ) (schedule : List ℕ) (lent : Lent) 
       spent = λ z. used (unfinished-plays z) ∙ demanded (unfinished-plays z) .used-spent (partial z);
       not-finished = partial;
       finished = λ z. rw (used (success-plays z)) (demanded (success-plays z) .used-finished (whole z));
-      layer = λ p. ap (λ (o : Outcome). o .answer .layer) (e ∙ call-played file source P schedule lent (played p));
+      layer = layered;
       counted = λ p. rw (effective p, used p) (demanded p .counted);
       bounded = rw (ap (λ (o : Outcome). o .answer .effective) e) (call-effective file source P schedule lent);
       below = λ z. rw (effective (unfinished-plays z)) (demanded (unfinished-plays z) .below (partial z));
@@ -134,4 +157,6 @@ module _ (file : List ℕ) (source P : ℕ) (schedule : List ℕ) (lent : Lent) 
       final = λ p v d h. demanded p .final (length schedule) v d (rw (all-bytes p, ← (labels p)) h);
       right-result = λ z. rw (labels (success-plays z)) (demanded (success-plays z) .right-result (whole z));
       link-by-link = λ z. rw (labels (success-plays z), ← (length-graph file)) (demanded (success-plays z) .link-by-link (whole z));
+      census = λ p. rw (labels p, layered p, counts p) (told p);
+      counts-kept = counts;
     }

@@ -16,6 +16,7 @@ lengthsIn x = record {
   marks = x .marks;
   distances = x .distances;
   parents = x .parents;
+  histogram = x .histogram;
   left = x .left;
   right = x .right;
   values = x .values;

@@ -11,6 +11,7 @@ use Rattle.graph.specs.Steps.{GraphRows}
 use Rattle.model.specs.Play.{Run}
 use Rattle.model.specs.Call.{nodePlaces}
 use Rattle.model.specs.Words.{wordOf}
+use Rattle.model.specs.Histogram.{recount}
 use Rattle.model.specs.Demand.{Accepted}
 use Rattle.engine.specs.declared.Answer.{Answer}
 use Rattle.engine.specs.Runs.{answerOf, Told}
@@ -21,7 +22,7 @@ refusedWith number = answerOf number 0 0 0
 
 -- what `play` takes for granted: of the first places of longer lists, what `run` does of whole ones
 pub record Playable (n m source P : ℕ)
-    (schedule offsets targets distances parents left right values : List ℕ) : Type 0 where
+    (schedule offsets targets distances parents histogram left right values : List ℕ) : Type 0 where
   pub rows : GraphRows (take (n + 1) offsets) (take m targets) n
   pub accepted : Accepted (rowsOf (take (n + 1) offsets) (take m targets)) source P schedule
   pub few-events : length schedule ≤ maxEvents
@@ -29,17 +30,20 @@ pub record Playable (n m source P : ℕ)
   pub targets-there : m ≤ length targets
   pub distances-there : n ≤ length distances
   pub parents-there : n ≤ length parents
+  pub histogram-there : n ≤ length histogram
   pub left-there : nodePlaces n P ≤ length left
   pub right-there : nodePlaces n P ≤ length right
   pub values-there : nodePlaces n P ≤ length values
 
--- what `play` promises: the labels in the first places, the nodes' first places 0, the others as they were
+-- what `play` promises: labels and counts in the first places, the nodes' first places 0, the others as they were
 pub record PlayedOut (r : Run) (places : ℕ)
-    (distances parents left right values distances′ parents′ left′ right′ values′ : List ℕ)
+    (distances parents histogram left right values : List ℕ)
+    (distances′ parents′ histogram′ left′ right′ values′ : List ℕ)
     (answer : Answer) : Type 0 where
   pub told : Told r answer
   pub labelled : distances′ ≡ overlay (map wordOf (r .state .labels .distances)) distances
   pub named : parents′ ≡ overlay (map wordOf (r .state .labels .parents)) parents
+  pub counted : histogram′ ≡ overlay (recount (r .state .labels .distances)) histogram
   pub left-clear : left′ ≡ overlay (replicate places 0) left
   pub right-clear : right′ ≡ overlay (replicate places 0) right
   pub values-clear : values′ ≡ overlay (replicate places 0) values

@@ -5,7 +5,7 @@ use mathlib.Core.Bool.{true, false}
 use mathlib.Core.List.{List}
 use mathlib.Core.Option.{some}
 use Prim.Native.Nat.{ℕ, _≤_, _<_}
-use lib.ListN.{length}
+use lib.ListN.{length, take}
 use Rattle.numbers.specs.Numbers.{success, unfinished}
 use Rattle.numbers.specs.Refusals.{first}
 use Rattle.lists.specs.Lists.{numbersFrom, sumOf}
@@ -17,16 +17,18 @@ use Rattle.model.specs.Serial.{Serial}
 use Rattle.model.specs.Demand.{Demand, Finisher}
 use Rattle.model.specs.Call as call
 use Rattle.model.specs.Words.{labelsIn}
+use Rattle.model.specs.Histogram.{countsAt, Counts}
 use Rattle.engine.specs.declared.Answer.{Answer}
 
 -- the lists that the caller lends
-abbrev pub lentLists : List ℕ → List ℕ → List ℕ → List ℕ → List ℕ → List ℕ → List ℕ → List ℕ → call.Lent
-lentLists offsets targets marks distances parents left right values = record {
+abbrev pub lentLists : List ℕ → List ℕ → List ℕ → List ℕ → List ℕ → List ℕ → List ℕ → List ℕ → List ℕ → call.Lent
+lentLists offsets targets marks distances parents histogram left right values = record {
   offsets = offsets;
   targets = targets;
   marks = marks;
   distances = distances;
   parents = parents;
+  histogram = histogram;
   left = left;
   right = right;
   values = values;
@@ -74,3 +76,11 @@ module _ (file : List ℕ) (source P : ℕ) (schedule : List ℕ) (lent : call.L
     pub link-by-link : r .number ≡ success
         → Serial (graphOf file) 0 (openingLabels (vertexCount file) source)
         (labelsIn (vertexCount file) (after .distances) (after .parents))
+    -- the caller's counts are a recount of the caller's distances, with 0 and 21 alike, and tell what counts tell ..
+    -- (§7.9)
+    pub census : call.plays (r .number) ≡ true
+        → Counts (labelsIn (vertexCount file) (after .distances) (after .parents) .distances) (r .layer)
+        (take (vertexCount file) (after .histogram))
+    -- .. and they are the counts as kept over the bytes of the schedule (§7.9)
+    pub counts-kept : call.plays (r .number) ≡ true
+        → take (vertexCount file) (after .histogram) ≡ countsAt (graphOf file) source P schedule (length schedule)

@@ -41,6 +41,9 @@ fn lengths_short(n: usize, m: usize, workers: usize, lengths: Lengths) -> bool
     if lengths.distances < n || lengths.parents < n {
         return true;
     }
+    if lengths.histogram < n {
+        return true;
+    }
     if lengths.left < places || lengths.right < places {
         return true;
     }
@@ -85,21 +88,24 @@ fn play(
     targets: &[u16],
     distances: &mut [u16],
     parents: &mut [u16],
+    histogram: &mut [u16],
     left: &mut [u16],
     right: &mut [u16],
     values: &mut [u16],
 ) -> Answer
     requires { ⌜
         Playable n m source workers (now schedule) (now offsets) (now targets) (now distances) (now parents)
-        (now left) (now right) (now values)
+        (now histogram) (now left) (now right) (now values)
         ⌝ }
     ensures { λ r. ⌜
         PlayedOut
         (model.play (rowsOf (take (n + 1) (now (offsets .entry))) (take m (now (targets .entry))))
         source workers (now (schedule .entry)))
         (nodePlaces n workers)
-        (now (distances .entry)) (now (parents .entry)) (now (left .entry)) (now (right .entry)) (now (values .entry))
-        (now (distances .exit)) (now (parents .exit)) (now (left .exit)) (now (right .exit)) (now (values .exit))
+        (now (distances .entry)) (now (parents .entry)) (now (histogram .entry))
+        (now (left .entry)) (now (right .entry)) (now (values .entry))
+        (now (distances .exit)) (now (parents .exit)) (now (histogram .exit))
+        (now (left .exit)) (now (right .exit)) (now (values .exit))
         r
         ⌝ }
 {
@@ -113,6 +119,7 @@ fn play(
         &targets[..m],
         &mut distances[..n],
         &mut parents[..n],
+        &mut histogram[..n],
         &mut left[..places],
         &mut right[..places],
         &mut values[..places],
@@ -121,8 +128,8 @@ fn play(
     answer
 }
 
-// The search. Offsets, targets and marks are as the reader's; distances and parents get the labels;
-// left, right and values are working room.
+// The search. Offsets, targets and marks are as the reader's; distances and parents get the labels,
+// histogram how many vertices stand at each distance; left, right and values are working room.
 pub fn search(
     file: &[u8],
     source: usize,
@@ -133,24 +140,25 @@ pub fn search(
     marks: &mut [u16],
     distances: &mut [u16],
     parents: &mut [u16],
+    histogram: &mut [u16],
     left: &mut [u16],
     right: &mut [u16],
     values: &mut [u16],
 ) -> Answer
     ensures { λ r. ⌜
         searchExit r (lentLists (now (offsets .exit)) (now (targets .exit)) (now (marks .exit)) (now (distances .exit))
-        (now (parents .exit)) (now (left .exit)) (now (right .exit)) (now (values .exit)))
+        (now (parents .exit)) (now (histogram .exit)) (now (left .exit)) (now (right .exit)) (now (values .exit)))
         ≡ outcomeOfSearch (now (file .entry)) source workers (now (schedule .entry))
         (lentLists (now (offsets .entry)) (now (targets .entry)) (now (marks .entry)) (now (distances .entry))
-        (now (parents .entry)) (now (left .entry)) (now (right .entry)) (now (values .entry)))
+        (now (parents .entry)) (now (histogram .entry)) (now (left .entry)) (now (right .entry)) (now (values .entry)))
         ⌝ }
     ensures { λ r. ⌜
         Kept (now (file .entry)) source workers (now (schedule .entry))
         (lentLists (now (offsets .entry)) (now (targets .entry)) (now (marks .entry)) (now (distances .entry))
-        (now (parents .entry)) (now (left .entry)) (now (right .entry)) (now (values .entry)))
+        (now (parents .entry)) (now (histogram .entry)) (now (left .entry)) (now (right .entry)) (now (values .entry)))
         r
         (lentLists (now (offsets .exit)) (now (targets .exit)) (now (marks .exit)) (now (distances .exit))
-        (now (parents .exit)) (now (left .exit)) (now (right .exit)) (now (values .exit)))
+        (now (parents .exit)) (now (histogram .exit)) (now (left .exit)) (now (right .exit)) (now (values .exit)))
         ⌝ }
 {
     let lengths = Lengths {
@@ -159,6 +167,7 @@ pub fn search(
         marks: marks.len(),
         distances: distances.len(),
         parents: parents.len(),
+        histogram: histogram.len(),
         left: left.len(),
         right: right.len(),
         values: values.len(),
@@ -183,6 +192,7 @@ pub fn search(
         targets,
         distances,
         parents,
+        histogram,
         left,
         right,
         values,

@@ -12,6 +12,7 @@ pub struct Lengths {
     pub marks: usize,
     pub distances: usize,
     pub parents: usize,
+    pub histogram: usize,
     pub left: usize,
     pub right: usize,
     pub values: usize,

@@ -40,7 +40,9 @@ fn digits(list: &[u16]) -> u64 {
     first + (at(list, 2) % 10) as u64 * 10 + (at(list, 3) % 10) as u64
 }
 
-// The last digits of the first four distances, then of the first four parents.
-pub fn code(distances: &[u16], parents: &[u16]) -> u64 {
-    digits(distances) % 10000 * 10000 + digits(parents) % 10000
+// The last digits of the first four distances, then of the first four parents, then of the first four
+// counts.
+pub fn code(distances: &[u16], parents: &[u16], histogram: &[u16]) -> u64 {
+    let labels = digits(distances) % 10000 * 10000 + digits(parents) % 10000;
+    labels * 10000 + digits(histogram) % 10000
 }

@@ -1,5 +1,5 @@
-// The lists that a call left, compared with what it must leave. Each of the eight lists has a
-// number of its own at all places at entry.
+// The lists that a call left, compared with what it must leave. Each of the nine lists has a number
+// of its own at all places at entry.
 use crate::counts::places;
 use crate::requests::Request;
 use crate::requests::Seen;
@@ -17,6 +17,8 @@ pub const MARKS_TAG: u16 = 99;
 pub const DISTANCES_TAG: u16 = 1;
 
 pub const PARENTS_TAG: u16 = 2;
+
+pub const HISTOGRAM_TAG: u16 = 60003;
 
 pub const LEFT_TAG: u16 = 300;
 
@@ -53,9 +55,12 @@ pub fn are_rows(
     first & rest & is_filled(marks, m, MARKS_TAG)
 }
 
-// Whether distances and parents are as they were from a place on.
-pub fn are_labels_kept(distances: &[u16], parents: &[u16], from: usize) -> bool {
-    is_filled(distances, from, DISTANCES_TAG) & is_filled(parents, from, PARENTS_TAG)
+// Whether distances, parents and counts are as they were from a place on.
+pub fn are_labels_kept(distances: &[u16], parents: &[u16], histogram: &[u16], from: u16) -> bool {
+    let place = from as usize;
+    let reached = is_filled(distances, place, DISTANCES_TAG);
+    let named = is_filled(parents, place, PARENTS_TAG);
+    reached & named & is_filled(histogram, place, HISTOGRAM_TAG)
 }
 
 // Whether the first places of the node lists are 0, and the others as they were.
@@ -80,13 +85,9 @@ pub fn cleared(number: usize, edges: u16) -> usize {
     }
 }
 
-// How many of the first labels may have changed.
-pub fn labelled(number: usize, vertices: u16) -> usize {
-    if is_played(number) {
-        vertices as usize
-    } else {
-        0
-    }
+// How many of the first labels and counts may have changed.
+pub fn labelled(number: usize, vertices: u16) -> u16 {
+    if is_played(number) { vertices } else { 0 }
 }
 
 // How many of the first nodes must be 0.

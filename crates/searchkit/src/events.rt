@@ -21,7 +21,7 @@ const MIXTURES: [[u16; 4]; 5] = [
 // How many mixtures there are.
 pub const MIXED: u16 = 5;
 
-const CLOSE: u8 = 192;
+pub const CLOSE: u8 = 192;
 
 // What draws the bytes: its seed, and the place in the full round that was begun, or 0.
 struct Pen {
@@ -48,7 +48,7 @@ fn limit(mixture: u16, column: u16) -> u16 {
 }
 
 // 64 × kind + 8 × w + v.
-fn event(kind: u16, w: u16, v: u16) -> u8 {
+pub fn event(kind: u16, w: u16, v: u16) -> u8 {
     (kind % 4 * 64 + w % 8 * 8 + v % 8) as u8
 }
 

@@ -1,6 +1,7 @@
 // Inputs with every set of faults: each must give the first number of document 01's order, 1 (under
 // 4), 2, 1 (length), 4, 3, 7, 8, 9, 20, 5, 6, 21. A combination's binary digits say which faults
-// the input has, the first fault being the lowest digit.
+// the input has, the first fault being the lowest digit; the highest digit is no fault, and says which
+// list is short.
 use crate::base::FILE;
 use crate::requests::Lengths;
 use crate::requests::Request;
@@ -9,7 +10,7 @@ use testkit::files::put;
 use testkit::files::put_word;
 use testkit::files::put_words;
 
-pub const COMBINATIONS: u16 = 4096;
+pub const COMBINATIONS: u16 = 8192;
 
 // Whether the fault is there.
 pub fn has(combination: u16, power: u16) -> bool {
@@ -81,18 +82,21 @@ pub fn make_schedule(schedule: &mut [u8], combination: u16) {
     }
 }
 
-// The lists at their need, but one of them.
+// The lists at their need, but one of them: the node values, or the counts.
 fn lent(combination: u16) -> Lengths {
     let need = needs(4, 4, 2, 0);
+    let is_short = has(combination, 256);
+    let is_counts = has(combination, 4096);
     Lengths {
         offsets: need.offsets,
         targets: need.targets,
         marks: need.marks,
         distances: need.distances,
         parents: need.parents,
+        histogram: either(is_short & is_counts, 3, 4) as usize,
         left: need.left,
         right: need.right,
-        values: either(has(combination, 256), 8, 9) as usize,
+        values: either(is_short & !is_counts, 8, 9) as usize,
     }
 }
 

@@ -4,7 +4,7 @@ use testkit::sample::after;
 use testkit::words::at;
 
 // An unset distance or parent.
-const UNSET: u16 = 65535;
+pub const UNSET: u16 = 65535;
 
 // What the labels are judged by: n, the source, the layer d, and whether the search was finished.
 pub struct View {

@@ -17,20 +17,20 @@ const SCHEDULE_LENGTH: u32 = 2700;
 
 // Each list alone short among lists at their need, and among longer ones; all at their need; all
 // longer; then drawn ones.
-pub const COMBINATIONS: u16 = 118;
+pub const COMBINATIONS: u16 = 120;
 
 // What a list has: 0 for one place short, 1 for its need, 2 for six places more than one short.
 fn choice(combination: u16, list: u16) -> u16 {
-    if combination < 8 {
+    if combination < 9 {
         return if combination == list { 0 } else { 1 };
     }
-    if combination < 16 {
-        return if combination - 8 == list { 0 } else { 2 };
-    }
     if combination < 18 {
-        return combination - 15;
+        return if combination - 9 == list { 0 } else { 2 };
     }
-    let drawn = below(leap(combination as u64 * 8 + list as u64), 16);
+    if combination < 20 {
+        return combination - 17;
+    }
+    let drawn = below(leap(combination as u64 * 9 + list as u64), 16);
     if drawn == 0 { 0 } else { 1 + drawn % 2 }
 }
 
@@ -48,9 +48,10 @@ pub fn lent(combination: u16) -> Lengths {
         marks: length(need.marks, combination, 2),
         distances: length(need.distances, combination, 3),
         parents: length(need.parents, combination, 4),
-        left: length(need.left, combination, 5),
-        right: length(need.right, combination, 6),
-        values: length(need.values, combination, 7),
+        histogram: length(need.histogram, combination, 5),
+        left: length(need.left, combination, 6),
+        right: length(need.right, combination, 7),
+        values: length(need.values, combination, 8),
     }
 }
 
@@ -62,8 +63,8 @@ fn is_short(combination: u16, list: u16) -> bool {
 // 20 where one of the lists is one short.
 pub fn expected(combination: u16) -> usize {
     let rows = is_short(combination, 0) | is_short(combination, 1) | is_short(combination, 2);
-    let labels = is_short(combination, 3) | is_short(combination, 4);
-    let nodes = is_short(combination, 5) | is_short(combination, 6) | is_short(combination, 7);
+    let labels = is_short(combination, 3) | is_short(combination, 4) | is_short(combination, 5);
+    let nodes = is_short(combination, 6) | is_short(combination, 7) | is_short(combination, 8);
     if rows | labels | nodes { 20 } else { 0 }
 }
 

@@ -58,6 +58,28 @@ Between targets n (InHand u e f t) = t < n
 Between targets n (Marked u e f t) = t < n
 Between targets n (Named u e f t) = ⊥
 
+-- a phase whose mark can be counted: d + 1 has its place, and room for one more
+abbrev pub Countable : ℕ → List ℕ → Phase → Type 0
+Countable layer histogram Free = Unit {0}
+Countable layer histogram (Holding u e f) = Unit {0}
+Countable layer histogram (InHand u e f t) =
+    (layer + 1 < length histogram) × (getD histogram (layer + 1) 0 + 1 < 65536)
+Countable layer histogram (Marked u e f t) = Unit {0}
+Countable layer histogram (Named u e f t) = Unit {0}
+
+-- `mark` of t: one more at this distance, where t is unset
+unfoldable pub countAt : ℕ → ℕ → List ℕ → List ℕ → List ℕ
+countAt t distance distances histogram =
+    cond (eqb (getD distances t 0) unset) (set histogram distance (getD histogram distance 0 + 1)) histogram
+
+-- the counts after `advance`: a mark counts, nothing else does
+abbrev pub countsAfter : Phase → ℕ → List ℕ → List ℕ → List ℕ
+countsAfter Free layer distances histogram = histogram
+countsAfter (Holding u e f) layer distances histogram = histogram
+countsAfter (InHand u e f t) layer distances histogram = countAt t (layer + 1) distances histogram
+countsAfter (Marked u e f t) layer distances histogram = histogram
+countsAfter (Named u e f t) layer distances histogram = histogram
+
 -- what `advance` promises: the model's move, and a phase that is in the rows
 pub record Advanced (phase : Phase) (layer : ℕ)
     (offsets targets distances parents distances′ parents′ : List ℕ) (phase′ : Phase) : Type 0 where

@@ -3,13 +3,14 @@ ghost use mathlib.Core.Path.{_≡_};
 ghost use mathlib.Core.Bool.{false};
 ghost use mathlib.Core.List.{List, [], _∷_};
 ghost use Prim.Native.Nat.{ℕ, _+_, _≤_, _<_};
-ghost use lib.ListN.{length, getD};
+ghost use lib.ListN.{length, getD, set};
 ghost use Rattle.pennant.specs.Held.{copies};
 ghost use Rattle.pennant.specs.Bag.{isEmpty};
 ghost use Rattle.bag.specs.Nodes.{heldBy};
 ghost use Rattle.bag.specs.Promises.{Pooled, Inserted};
 ghost use Rattle.graph.specs.Steps.{GraphRows};
 ghost use Rattle.workers.specs.Steps.{InRows, holdFrom, lookAt, Between, Advanced, BegunFrom};
+ghost use Rattle.workers.specs.Steps.{Countable, countAt, countsAfter};
 use crate::Begun;
 use crate::Phase;
 use crate::Stowed;
@@ -52,6 +53,25 @@ fn look(vertex: u16, edge: usize, end: usize, targets: &[u16], distances: &[u16]
     hold(vertex, edge + 1, end)
 }
 
+// "mark (distance d + 1)": a vertex that is unset is counted there.
+fn mark(target: u16, layer: u16, distances: &mut [u16], histogram: &mut [u16])
+    requires { ⌜ target < length (now distances) ⌝ }
+    requires { ⌜ layer + 1 < length (now histogram) ⌝ }
+    requires { ⌜ layer + 1 < 65536 ⌝ }
+    requires { ⌜ getD (now histogram) (layer + 1) 0 + 1 < 65536 ⌝ }
+    ensures { λ _. ⌜ now (distances .exit) ≡ set (now (distances .entry)) target (layer + 1) ⌝ }
+    ensures { λ _. ⌜
+        now (histogram .exit) ≡ countAt target (layer + 1) (now (distances .entry)) (now (histogram .entry))
+        ⌝ }
+{
+    let distance = layer + 1;
+    let old = at(distances, target);
+    if old == numbers::UNSET {
+        put(histogram, distance, at(histogram, distance) + 1);
+    }
+    put(distances, target, distance);
+}
+
 // A move that needs no bag: look, mark or name.
 pub fn advance(
     phase: Phase,
@@ -59,15 +79,20 @@ pub fn advance(
     targets: &[u16],
     distances: &mut [u16],
     parents: &mut [u16],
+    histogram: &mut [u16],
 ) -> Phase
     requires { ⌜ length (now parents) ≡ length (now distances) ⌝ }
     requires { ⌜ layer + 1 < 65536 ⌝ }
     requires { ⌜ Between (now targets) (length (now distances)) phase ⌝ }
+    requires { ⌜ Countable layer (now histogram) phase ⌝ }
     ensures { λ r. ⌜
         ((offsets : List ℕ) → GraphRows offsets (now (targets .entry)) (length (now (distances .entry)))
         → layer < length (now (distances .entry)) → InRows offsets (length (now (distances .entry))) phase
         → Advanced phase layer offsets (now (targets .entry)) (now (distances .entry)) (now (parents .entry))
         (now (distances .exit)) (now (parents .exit)) r)
+        ⌝ }
+    ensures { λ _. ⌜
+        now (histogram .exit) ≡ countsAfter phase layer (now (distances .entry)) (now (histogram .entry))
         ⌝ }
 {
     match phase {
@@ -79,7 +104,7 @@ pub fn advance(
             end,
             target,
         } => {
-            put(distances, target, layer + 1);
+            mark(target, layer, distances, histogram);
             Phase::Marked {
                 vertex,
                 edge,

@@ -10,18 +10,19 @@ use Rattle.capi.proofs.hopmap_search.Tie as tie
 -- where the search was called
 abbrev search-at : tie.After-tell-search-arg → tie.After-search
 search-at c =
-    c .before .before .before .before .before .before .before .before .before .before .before .before .before .before .before .before .before
+    c .before .before .before .before .before .before .before .before .before .before .before .before .before .before .before .before .before .before .before
 
 -- the function's entry
 abbrev entry : tie.After-search → tie.Start
 entry c =
-    c .before .before .before .before .before .before .before .before .before .before .before .before .before .before .before .before .before .before .before
+    c .before .before .before .before .before .before .before .before .before .before .before .before .before .before .before .before .before .before .before .before .before
 
 -- the lists that were lent
 abbrev lentOf : tie.Start → Lent
 lentOf s =
     let a = s .args in
-    lentLists (a .offsets .now) (a .targets .now) (a .marks .now) (a .distances .now) (a .parents .now) (a .left .now) (a .right .now) (a .values .now)
+    lentLists (a .offsets .now) (a .targets .now) (a .marks .now) (a .distances .now) (a .parents .now) (a .census .now) (a .left .now) (a .right .now)
+    (a .values .now)
 
 search-requires : tie.Need-search-requires
 search-requires c κs = search needs
@@ -56,6 +57,9 @@ same-length-7 c = search needs
 same-length-8 : tie.Need-same-length-8
 same-length-8 c = search needs
 
+same-length-9 : tie.Need-same-length-9
+same-length-9 c = search needs
+
 returns : tie.Need-returns
 returns c =
     let called = search-at (c .before) in
@@ -77,4 +81,5 @@ hopmap-search-spec =
     same-length-6
     same-length-7
     same-length-8
+    same-length-9
     returns)

@@ -2,7 +2,8 @@
 use borrow.Author.Needs.{needs}
 use mathlib.Core.Path.{refl}
 use lib.ListN.{length}
-use Rattle.opening.proofs.OpenFacts.{labelled}
+use Rattle.numbers.specs.Numbers.{unset}
+use Rattle.opening.proofs.OpenFacts.{filled-but-one}
 use Rattle.opening.proofs.label.Statement.{statement}
 use Rattle.opening.proofs.label.Tie as tie
 
@@ -31,8 +32,8 @@ returns c =
     let start = filled .before .before .before .before .before .before .before .before in
     let n = length (start .args .distances .now) in
     let source = start .args .source in (
-      labelled n source 0 (start .args .distances .now) n refl refl (filled .before .before .before .before .fill .ensures) (first .put .ensures),
-      labelled n source source (start .args .parents .now) (length (start .args .parents .now)) (start .pre .1) refl (filled .fill2 .ensures)
+      filled-but-one unset n source 0 (start .args .distances .now) n refl refl (filled .before .before .before .before .fill .ensures) (first .put .ensures),
+      filled-but-one unset n source source (start .args .parents .now) (length (start .args .parents .now)) (start .pre .1) refl (filled .fill2 .ensures)
           (c .before .before .put2 .ensures),
     )
 

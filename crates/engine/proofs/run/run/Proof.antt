@@ -12,7 +12,7 @@ use Rattle.workers.specs.declared.Phase.the-variants.{Free}
 use Rattle.workers.specs.Steps.{Between}
 use Rattle.schedule.specs.declared.Event.{Event}
 use Rattle.schedule.specs.declared.Event.the-variants.{Work, Split, Unite, Close}
-use Rattle.engine.proofs.PlayingFacts.{Given, Going, Turn, turn-of, place-fits, layer-fits, used-fits, effective-fits, malformed-on}
+use Rattle.engine.proofs.PlayingFacts.{Given, Going, Turn, turn-of, counts-long, place-fits, layer-fits, used-fits, effective-fits, malformed-on}
 use Rattle.engine.proofs.StartFacts.{givenBy, SameLengths, source-there, start-on}
 use Rattle.engine.proofs.WorkFacts.{work-place, input-told, rest-on, begin-able, stow-able, between-now, advance-able, some-pending, found-fits, worked-on}
 use Rattle.engine.proofs.WorkFacts.{Worked, begun-worked, stowed-worked, advanced-worked}
@@ -22,25 +22,25 @@ use Rattle.engine.proofs.run.run.Statement.{statement}
 use Rattle.engine.proofs.run.run.Tie as tie
 
 abbrev Inv-loop : tie.InvT-loop
-Inv-loop source workers schedule offsets targets distances₀ parents₀ left₀ right₀ values₀ inputs₀ outputs₀ phases₀ pending₀ found₀ used₀ effective₀ layer₀
-    distances parents left right values inputs outputs phases pending found used effective layer =
+Inv-loop source workers schedule offsets targets distances₀ parents₀ histogram₀ left₀ right₀ values₀ inputs₀ outputs₀ phases₀ pending₀ found₀ used₀ effective₀ layer₀
+    distances parents histogram left right values inputs outputs phases pending found used effective layer =
     Going (givenBy source workers schedule offsets targets distances₀ left₀ right₀ values₀)
-    distances parents left right values inputs outputs phases pending found used effective layer
+    distances parents histogram left right values inputs outputs phases pending found used effective layer
 
 abbrev μ-loop : tie.MeasureT-loop
-μ-loop source workers schedule offsets targets distances₀ parents₀ left₀ right₀ values₀ inputs₀ outputs₀ phases₀ pending₀ found₀ used₀ effective₀ layer₀
-    distances parents left right values inputs outputs phases pending found used effective layer =
+μ-loop source workers schedule offsets targets distances₀ parents₀ histogram₀ left₀ right₀ values₀ inputs₀ outputs₀ phases₀ pending₀ found₀ used₀ effective₀ layer₀
+    distances parents histogram left right values inputs outputs phases pending found used effective layer =
     length schedule - used
 
 -- Places that the needs look back to.
 
 -- the call of `open`, from the last one before the loop
 abbrev opening : tie.After-all-free Inv-loop μ-loop → tie.After-open Inv-loop μ-loop
-opening c = c .before .before .before .before .before .before .before .before .before .before .before .before .before .before
+opening c = c .before .before .before .before .before .before .before .before .before .before .before .before .before .before .before .before
 
 -- the start, from there
 abbrev start : tie.After-open Inv-loop μ-loop → tie.Start Inv-loop μ-loop
-start c = c .before .before .before .before .before .before .before .before .before .before .before .before .before .before
+start c = c .before .before .before .before .before .before .before .before .before .before .before .before .before .before .before .before
 
 -- the loop's head, from a decoded byte
 abbrev head : tie.After-decode Inv-loop μ-loop → tie.At-loop Inv-loop μ-loop
@@ -65,8 +65,8 @@ named-of-stow c = c .before .before .before .before .before
 abbrev stow-of-more : tie.After-more Inv-loop μ-loop → tie.After-stow-arg4 Inv-loop μ-loop
 stow-of-more c = c .before .before .before .before .before .before .before .before
 
-abbrev other-of-advanced : tie.After-slice-known16 Inv-loop μ-loop → tie.At-match3-keys2 Inv-loop μ-loop
-other-of-advanced c = c .before .before .before .before .before .before .before
+abbrev other-of-advanced : tie.After-slice-known19 Inv-loop μ-loop → tie.At-match3-keys2 Inv-loop μ-loop
+other-of-advanced c = c .before .before .before .before .before .before .before .before .before .before
 
 -- two workers, from the test of their bags; the test, from the call of `split` or `union`; and that call, from what follows it
 abbrev workers-of-split : tie.After-can-split Inv-loop μ-loop → tie.After-event2 Inv-loop μ-loop
@@ -84,14 +84,14 @@ workers-of-unite c = c .before .before .before .before
 abbrev test-of-union : tie.After-union-arg4 Inv-loop μ-loop → tie.Then3 Inv-loop μ-loop
 test-of-union c = c .before .before .before .before
 
-abbrev union-of-united : tie.After-slice-known20 Inv-loop μ-loop → tie.After-union Inv-loop μ-loop
+abbrev union-of-united : tie.After-slice-known23 Inv-loop μ-loop → tie.After-union Inv-loop μ-loop
 union-of-united c = c .before .before .before .before
 
 -- a close, from the call of `gather` and from what follows it
 abbrev found-of-gather : tie.After-gather-arg3 Inv-loop μ-loop → tie.Else5 Inv-loop μ-loop
 found-of-gather c = c .before .before .before
 
-abbrev gather-of-united : tie.After-slice-known22 Inv-loop μ-loop → tie.After-gather Inv-loop μ-loop
+abbrev gather-of-united : tie.After-slice-known25 Inv-loop μ-loop → tie.After-gather Inv-loop μ-loop
 gather-of-united c = c .before .before .before .before
 
 -- What is known there.
@@ -99,29 +99,31 @@ gather-of-united c = c .before .before .before .before
 -- the lists keep their lengths over the opening
 opened-lengths : (c : tie.After-open Inv-loop μ-loop) → let args = start c .args in
     let lists = c .«open» .last .1 .1 in
-    SameLengths (args .distances .now) (args .parents .now) (args .left .now) (args .right .now) (args .values .now) (lists .0) (lists .1 .0) (lists .1 .1 .0)
-    (lists .1 .1 .1 .0) (lists .1 .1 .1 .1 .0)
+    SameLengths (args .distances .now) (args .parents .now) (args .histogram .now) (args .left .now) (args .right .now) (args .values .now)
+    (lists .0) (lists .1 .0) (lists .1 .1 .0) (lists .1 .1 .1 .0) (lists .1 .1 .1 .1 .0) (lists .1 .1 .1 .1 .1 .0)
 opened-lengths c =
     let kept = c .«open» .kept .1 .1 in
     record {
       of-distances = kept .0;
       of-parents = kept .1 .0;
-      of-left = kept .1 .1 .0;
-      of-right = kept .1 .1 .1 .0;
-      of-values = kept .1 .1 .1 .1 .0;
+      of-histogram = kept .1 .1 .0;
+      of-left = kept .1 .1 .1 .0;
+      of-right = kept .1 .1 .1 .1 .0;
+      of-values = kept .1 .1 .1 .1 .1 .0;
     }
 
 -- and over all turns
 lengths : (c : tie.At-loop Inv-loop μ-loop) → let args = start (opening (c .before)) .args in
     let now = c .loop in
-    SameLengths (args .distances .now) (args .parents .now) (args .left .now) (args .right .now) (args .values .now) (now .distances) (now .parents) (now .left)
-    (now .right) (now .values)
+    SameLengths (args .distances .now) (args .parents .now) (args .histogram .now) (args .left .now) (args .right .now) (args .values .now)
+    (now .distances) (now .parents) (now .histogram) (now .left) (now .right) (now .values)
 lengths c =
     let long = c .loop .inv .long in
     let same = opened-lengths (opening (c .before)) in
     record {
       of-distances = long .distances-long ∙ same .of-distances;
       of-parents = long .parents-long ∙ same .of-distances ∙ sym (start (opening (c .before)) .pre .sized .parents-all);
+      of-histogram = counts-long (c .loop .inv) ∙ same .of-distances ∙ sym (start (opening (c .before)) .pre .sized .histogram-all);
       of-left = long .left-long ∙ same .of-left;
       of-right = long .right-long ∙ same .of-right;
       of-values = long .values-long ∙ same .of-values;
@@ -132,14 +134,14 @@ abbrev given : tie.At-loop Inv-loop μ-loop → Given
 given c =
     let args = start (opening (c .before)) .args in
     let lists = opening (c .before) .«open» .last .1 .1 in
-    givenBy (args .source) (args .workers) (args .schedule .now) (args .offsets .now) (args .targets .now) (lists .0) (lists .1 .1 .0) (lists .1 .1 .1 .0)
-    (lists .1 .1 .1 .1 .0)
+    givenBy (args .source) (args .workers) (args .schedule .now) (args .offsets .now) (args .targets .now) (lists .0) (lists .1 .1 .1 .0)
+    (lists .1 .1 .1 .1 .0) (lists .1 .1 .1 .1 .1 .0)
 
 -- a turn whose byte says e
 abbrev Turn-at : tie.After-decode Inv-loop μ-loop → Event → Type 0
 Turn-at c e =
     let now = head c .loop in
-    Turn (given (head c)) (now .distances) (now .parents) (now .left) (now .right) (now .values) (now .inputs) (now .outputs) (now .phases) (now .pending)
+    Turn (given (head c)) (now .distances) (now .parents) (now .histogram) (now .left) (now .right) (now .values) (now .inputs) (now .outputs) (now .phases) (now .pending)
     (now .found) (now .used) (now .effective) (now .layer) e
 
 -- by what was decoded
@@ -171,26 +173,27 @@ between c =
 
 -- what a worker's move left, whichever it was: the lists, the bags, the phases, and how many were found
 moved : (c : tie.At-match2-came Inv-loop μ-loop) → let after = c .match2 in
-    Worked (work-turn (c .before .before .before)) (after .distances) (after .parents) (after .left) (after .right) (after .values) (after .inputs)
+    Worked (work-turn (c .before .before .before)) (after .distances) (after .parents) (after .histogram) (after .left) (after .right) (after .values) (after .inputs)
     (after .outputs) (after .phases) (after .found)
 moved c =
     let worker = work-turn (c .before .before .before) in
     ⊎-elim
     (λ b.
-    rw (b .12, b .13, b .14, b .15, b .16, b .17, b .18, b .19, b .20)
+    rw (b .12, b .13, b .14, b .15, b .16, b .17, b .18, b .19, b .20, b .21)
     (begun-worked worker (b .1 .given .1) (input-told worker (b .3 .ensures) ∙ b .4 .left) (b .8 .ensures)))
     (⊎-elim
     (λ s.
-    rw (s .16, s .17, s .18, s .19, s .20, s .21, s .22, s .23, s .24) (stowed-worked worker (s .2 .given .1) (s .8 .ensures .0) (s .8 .ensures .1)))
+    rw (s .16, s .17, s .18, s .19, s .20, s .21, s .22, s .23, s .24, s .25)
+    (stowed-worked worker (s .2 .given .1) (s .8 .ensures .0) (s .8 .ensures .1)))
     (λ a.
-    rw (a .9, a .10, a .11, a .12, a .13, a .14, a .15, a .16, a .17)
-    (advanced-worked worker (between (record { before = record { before = c .before; match2 = a .0 }; match3 = a .1 })) (a .4 .ensures))))
+    rw (a .12, a .13, a .14, a .15, a .16, a .17, a .18, a .19, a .20, a .21)
+    (advanced-worked worker (between (record { before = record { before = c .before; match2 = a .0 }; match3 = a .1 })) (a .5 .ensures .0) (a .5 .ensures .1))))
     (c .match2 .came)
 
 -- The needs.
 
 open-requires : tie.Need-open-requires Inv-loop μ-loop
-open-requires c κs = let s = c .before .before .before .before .before .before .before .before .before .before .before .before .before in (source-there (s .pre), s .pre .sized)
+open-requires c κs = let s = c .before .before .before .before .before .before .before .before .before .before .before .before .before .before .before in (source-there (s .pre), s .pre .sized)
 
 first-of-eight-requires : tie.Need-first-of-eight-requires Inv-loop μ-loop
 first-of-eight-requires c κs = search needs
@@ -299,7 +302,7 @@ add-found c =
 
 advance-requires : tie.Need-advance-requires Inv-loop μ-loop
 advance-requires c κs =
-    let other = c .before .before in
+    let other = c .before .before .before in
     advance-able (work-turn (other .before .before .before .before)) (between other)
 
 mul-phases-3 : tie.Need-mul-phases-3 Inv-loop μ-loop
@@ -475,13 +478,16 @@ same-length-2 : tie.Need-same-length-2 Inv-loop μ-loop
 same-length-2 c = lengths (head (c .before .before .before .before .before)) .of-parents
 
 same-length-3 : tie.Need-same-length-3 Inv-loop μ-loop
-same-length-3 c = lengths (head (c .before .before .before .before .before)) .of-left
+same-length-3 c = lengths (head (c .before .before .before .before .before)) .of-histogram
 
 same-length-4 : tie.Need-same-length-4 Inv-loop μ-loop
-same-length-4 c = lengths (head (c .before .before .before .before .before)) .of-right
+same-length-4 c = lengths (head (c .before .before .before .before .before)) .of-left
 
 same-length-5 : tie.Need-same-length-5 Inv-loop μ-loop
-same-length-5 c = lengths (head (c .before .before .before .before .before)) .of-values
+same-length-5 c = lengths (head (c .before .before .before .before .before)) .of-right
+
+same-length-6 : tie.Need-same-length-6 Inv-loop μ-loop
+same-length-6 c = lengths (head (c .before .before .before .before .before)) .of-values
 
 returns : tie.Need-returns Inv-loop μ-loop
 returns c =
@@ -537,20 +543,23 @@ loop-again-9 c = malformed-on (turn (c .before .before) (c .enum-told3 .given .1
 conclude-requires-2 : tie.Need-conclude-requires-2 Inv-loop μ-loop
 conclude-requires-2 c κs = search needs
 
-same-length-6 : tie.Need-same-length-6 Inv-loop μ-loop
-same-length-6 c = lengths (c .before .before) .of-distances
-
 same-length-7 : tie.Need-same-length-7 Inv-loop μ-loop
-same-length-7 c = lengths (c .before .before) .of-parents
+same-length-7 c = lengths (c .before .before) .of-distances
 
 same-length-8 : tie.Need-same-length-8 Inv-loop μ-loop
-same-length-8 c = lengths (c .before .before) .of-left
+same-length-8 c = lengths (c .before .before) .of-parents
 
 same-length-9 : tie.Need-same-length-9 Inv-loop μ-loop
-same-length-9 c = lengths (c .before .before) .of-right
+same-length-9 c = lengths (c .before .before) .of-histogram
 
 same-length-10 : tie.Need-same-length-10 Inv-loop μ-loop
-same-length-10 c = lengths (c .before .before) .of-values
+same-length-10 c = lengths (c .before .before) .of-left
+
+same-length-11 : tie.Need-same-length-11 Inv-loop μ-loop
+same-length-11 c = lengths (c .before .before) .of-right
+
+same-length-12 : tie.Need-same-length-12 Inv-loop μ-loop
+same-length-12 c = lengths (c .before .before) .of-values
 
 returns-2 : tie.Need-returns-2 Inv-loop μ-loop
 returns-2 c = spent-ran (c .before .before .loop .inv) (c .before .loop-test .left) (c .conclude2 .ensures)
@@ -651,6 +660,7 @@ run-spec =
     same-length-3
     same-length-4
     same-length-5
+    same-length-6
     returns
     array-copy-out-gather
     gather-requires
@@ -666,9 +676,10 @@ run-spec =
     loop-less-9
     loop-again-9
     conclude-requires-2
-    same-length-6
     same-length-7
     same-length-8
     same-length-9
     same-length-10
+    same-length-11
+    same-length-12
     returns-2)

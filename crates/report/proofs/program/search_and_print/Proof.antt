@@ -84,16 +84,19 @@ slice-aggregate-search-7 c = search needs
 slice-aggregate-search-8 : tie.Need-slice-aggregate-search-8
 slice-aggregate-search-8 c = search needs
 
+slice-aggregate-search-9 : tie.Need-slice-aggregate-search-9
+slice-aggregate-search-9 c = search needs
+
 search-requires : tie.Need-search-requires
 search-requires c κs = search needs
 
 -- where the search was called, from line one on
-abbrev searched-at : tie.After-put-first-line → tie.After-search
+abbrev searched-at : tie.After-put-first-line-arg → tie.After-search
 searched-at c = c .before .before .before .before .before .before .before .before .before .before
 
 -- where the schedule's length was read, from the search on
 abbrev read-at : tie.After-search → tie.After-word
-read-at c = c .before .before .before .before .before .before .before .before .before .before .before .before .before
+read-at c = c .before .before .before .before .before .before .before .before .before .before .before .before .before .before
 
 -- the function's entry, from there on
 abbrev entry : tie.After-search → tie.Start
@@ -120,20 +123,20 @@ few-vertices : (c : tie.After-search) {n : ℕ} → n ≡ word (file-of c) 0 →
 few-vertices c e = omega (arith, count-as (same-file c) e, passes (entry c) .sizes .few-vertices)
 
 -- the search is the program's
-told : (c : tie.After-search) {o : Outcome} → let words = c .before .before .before .before .before .before .before .before .before .before in
+told : (c : tie.After-search) {o : Outcome} → let words = c .before .before .before .before .before .before .before .before .before .before .before in
     o ≡ outcomeOfSearch (file-of c) (words .before .word2 .result) (words .word3 .result) (take (start-of c - 6) (drop 6 (input-of c))) programLists
     → o ≡ searched (input-of c)
 told c =
-    let words = c .before .before .before .before .before .before .before .before .before .before in
+    let words = c .before .before .before .before .before .before .before .before .before .before .before in
     searched-as (input-of c) (read-at c .word .ensures .0) (words .before .word2 .ensures .0) (words .word3 .ensures .0)
     (part-to-end (input-of c) (start-of c)) (events-part (input-of c) (read-at c .word .result))
 
 put-first-line-requires : tie.Need-put-first-line-requires
-put-first-line-requires c κs = search needs
+put-first-line-requires c κs = omega (arith, entry (searched-at c) .pre .1)
 
 word-requires-4 : tie.Need-word-requires-4
 word-requires-4 c κs =
-    let s = searched-at (c .before .before .before .before .before) in
+    let s = searched-at (c .before .before .before .before .before .before) in
     omega (arith, passes (entry s) .four, ap length (same-file s))
 
 slice-aggregate-put-vertex-lines : tie.Need-slice-aggregate-put-vertex-lines
@@ -146,7 +149,7 @@ put-vertex-lines-requires : tie.Need-put-vertex-lines-requires
 put-vertex-lines-requires c κs =
     let counted = c .before .before in
     let printed = counted .before .before .before .before .before .before in
-    let s = searched-at printed in
+    let s = searched-at (printed .before) in
     let few : counted .word4 .result ≤ programVertices = few-vertices s (counted .word4 .ensures .0) in
     let short : printed .put-first-line .result ≤ 84 = printed .put-first-line .ensures .0 in
     let kept = counted .before .before .before .before .before in (
@@ -164,7 +167,7 @@ returns c =
     let counted = listed .before .before .before in
     let joined = counted .before .before in
     let printed = joined .before .before .before .before in
-    let s = searched-at printed in
+    let s = searched-at (printed .before) in
     let played = ⊎-elim (λ w. plays-success (w .taken)) (λ w. plays-unfinished (w .0 .left) (w .2 .taken)) (joined .if1 .came) in
     search-and-print-lines (input-of s) (entry s .args .output .now) (told s (s .search .ensures .0))
     played (count-as (same-file s) (counted .word4 .ensures .0)) (printed .put-first-line .ensures .1) (listed .put-vertex-lines .ensures)
@@ -177,7 +180,7 @@ unfolding programLists
 returns-2 c =
     let joined = c .before .before in
     let printed = joined .before .before .before .before in
-    let s = searched-at printed in
+    let s = searched-at (printed .before) in
     search-and-print-line (input-of s) (entry s .args .output .now) (told s (s .search .ensures .0))
     (plays-neither (joined .if1 .left) (c .if2 .left)) (printed .put-first-line .ensures .1)
 
@@ -203,6 +206,7 @@ search-and-print-spec =
     slice-aggregate-search-6
     slice-aggregate-search-7
     slice-aggregate-search-8
+    slice-aggregate-search-9
     search-requires
     put-first-line-requires
     word-requires-4

@@ -13,7 +13,8 @@ use Rattle.search.proofs.call.search.Tie as tie
 abbrev lentOf : tie.Start → Lent
 lentOf s =
     let a = s .args in
-    lentLists (a .offsets .now) (a .targets .now) (a .marks .now) (a .distances .now) (a .parents .now) (a .left .now) (a .right .now) (a .values .now)
+    lentLists (a .offsets .now) (a .targets .now) (a .marks .now) (a .distances .now) (a .parents .now) (a .histogram .now) (a .left .now) (a .right .now)
+    (a .values .now)
 
 judge-requires : tie.Need-judge-requires
 judge-requires c κs = search needs
@@ -24,7 +25,7 @@ refuse-requires c κs = search needs
 returns : tie.Need-returns
 returns c =
     let judged = c .before .before .before in
-    let s = judged .before .before .before .before .before .before .before .before .before .before .before in
+    let s = judged .before .before .before .before .before .before .before .before .before .before .before .before in
     let a = s .args in
     let e =
     search-early (a .file .now) (a .source) (a .workers) (a .schedule .now) (lentOf s) (judged .judge .ensures) (c .before .if1 .taken)
@@ -35,7 +36,7 @@ unchain-requires : tie.Need-unchain-requires
 unchain-requires c κs =
     let passed = c .before .before .before in
     let judged = passed .before .before in
-    let s = judged .before .before .before .before .before .before .before .before .before .before .before in
+    let s = judged .before .before .before .before .before .before .before .before .before .before .before .before in
     let a = s .args in
     let told = early-passed (a .file .now) (a .source) (a .workers) (a .schedule .now) (lengthsOf (lentOf s)) (judged .judge .ensures) (passed .if1 .left) in
     (told .scanned, (told .long .offsets-there, (told .long .targets-there, told .long .marks-there)))
@@ -57,7 +58,7 @@ returns-2 c =
     let walked = c .before .before .before .before .before .before .before .before in
     let passed = walked .before .before .before .before in
     let judged = passed .before .before in
-    let s = judged .before .before .before .before .before .before .before .before .before .before .before in
+    let s = judged .before .before .before .before .before .before .before .before .before .before .before .before in
     let a = s .args in
     let e =
     search-chains (a .file .now) (a .source) (a .workers) (a .schedule .now) (lentOf s) (judged .judge .ensures) (passed .if1 .left) (walked .unchain .ensures)
@@ -66,11 +67,11 @@ returns-2 c =
 
 play-requires : tie.Need-play-requires
 play-requires c κs =
-    let whole = c .before .before .before .before .before .before .before in
+    let whole = c .before .before .before .before .before .before .before .before in
     let walked = whole .before .before .before .before .before .before .before in
     let passed = walked .before .before .before .before in
     let judged = passed .before .before in
-    let s = judged .before .before .before .before .before .before .before .before .before .before .before in
+    let s = judged .before .before .before .before .before .before .before .before .before .before .before .before in
     let a = s .args in
     search-playable (a .file .now) (a .source) (a .workers) (a .schedule .now) (lentOf s) (judged .judge .ensures) (passed .if1 .left)
     (walked .unchain .ensures)
@@ -100,14 +101,17 @@ same-length-10 c = search needs
 same-length-11 : tie.Need-same-length-11
 same-length-11 c = search needs
 
+same-length-12 : tie.Need-same-length-12
+same-length-12 c = search needs
+
 returns-3 : tie.Need-returns-3
 returns-3 c =
-    let played = c .before .before .before .before .before .before .before .before .before .before in
-    let whole = played .before .before .before .before .before .before .before .before in
+    let played = c .before .before .before .before .before .before .before .before .before .before .before .before in
+    let whole = played .before .before .before .before .before .before .before .before .before in
     let walked = whole .before .before .before .before .before .before .before in
     let passed = walked .before .before .before .before in
     let judged = passed .before .before in
-    let s = judged .before .before .before .before .before .before .before .before .before .before .before in
+    let s = judged .before .before .before .before .before .before .before .before .before .before .before .before in
     let a = s .args in
     let e =
     search-played (a .file .now) (a .source) (a .workers) (a .schedule .now) (lentOf s) (judged .judge .ensures) (passed .if1 .left) (walked .unchain .ensures)
@@ -136,4 +140,5 @@ search-spec =
     same-length-9
     same-length-10
     same-length-11
+    same-length-12
     returns-3)

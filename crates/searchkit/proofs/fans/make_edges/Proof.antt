@@ -1,23 +1,26 @@
--- `checkkit::graphs::line` is safe and ends. The lists keep their lengths; the measure is how many edges are left.
+-- `searchkit::fans::make_edges` is safe and ends. The lists keep their lengths; the measure is how many edges of the source are left.
 use Prim.Native.Nat.{_≤_, _-_}
 use mathlib.Core.Path.{_≡_}
 use lib.ListN.{length}
 use borrow.Author.Needs.{needs}
-use Rattle.checkkit.proofs.graphs.line.Statement.{statement}
-use Rattle.checkkit.proofs.graphs.line.Tie as tie
+use Rattle.searchkit.proofs.fans.make_edges.Statement.{statement}
+use Rattle.searchkit.proofs.fans.make_edges.Tie as tie
 
 abbrev Inv-loop : tie.InvT-loop
-Inv-loop edges sources₀ row-targets₀ rows₀ edge₀ sources row-targets rows edge =
-    (edge ≤ edges) × (length sources ≡ length sources₀) × (length row-targets ≡ length row-targets₀) × (length rows ≡ length rows₀)
+Inv-loop width sources₀ row-targets₀ rows₀ edge₀ sources row-targets rows edge =
+    (edge ≤ width) × (length sources ≡ length sources₀) × (length row-targets ≡ length row-targets₀) × (length rows ≡ length rows₀)
 
 abbrev μ-loop : tie.MeasureT-loop
-μ-loop edges sources₀ row-targets₀ rows₀ edge₀ sources row-targets rows edge = edges - edge
+μ-loop width sources₀ row-targets₀ rows₀ edge₀ sources row-targets rows edge = width - edge
 
 loop-holds : tie.Need-loop-holds Inv-loop μ-loop
 loop-holds c = search needs
 
 after-requires : tie.Need-after-requires Inv-loop μ-loop
 after-requires c κs = search needs
+
+wrapping-add-u16-requires : tie.Need-wrapping-add-u16-requires Inv-loop μ-loop
+wrapping-add-u16-requires c κs = search needs
 
 put-requires : tie.Need-put-requires Inv-loop μ-loop
 put-requires c κs = search needs
@@ -55,14 +58,15 @@ same-length-3 c = search needs
 returns : tie.Need-returns Inv-loop μ-loop
 returns c = search needs
 
-pub line-spec : {M : Type 1} → statement M
-line-spec =
+pub make-edges-spec : {M : Type 1} → statement M
+make-edges-spec =
     tie.close
     (tie.spec
     Inv-loop
     μ-loop
     loop-holds
     after-requires
+    wrapping-add-u16-requires
     put-requires
     put-requires-2
     put-requires-3

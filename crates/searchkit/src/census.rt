@@ -1,0 +1,52 @@
+// How many vertices stand at each distance, counted apart from the library: for each place of the
+// counts all distances are looked at.
+use crate::labels::UNSET;
+use testkit::sample::after;
+use testkit::words::at;
+
+// One more where it is wanted.
+fn with(count: u16, is_wanted: bool) -> u16 {
+    if is_wanted { after(count) } else { count }
+}
+
+// How many of the first n distances are this one.
+fn standing(distances: &[u16], vertices: u16, distance: u16) -> u16 {
+    let mut count: u16 = 0;
+    let mut vertex: u16 = 0;
+    while vertex < vertices {
+        count = with(count, at(distances, vertex) == distance);
+        vertex += 1;
+    }
+    count
+}
+
+// Whether each of the first n counts is the number of distances that are its place.
+fn is_recount(distances: &[u16], histogram: &[u16], vertices: u16) -> bool {
+    let mut place: u16 = 0;
+    while place < vertices {
+        if at(histogram, place) != standing(distances, vertices, place) {
+            return false;
+        }
+        place += 1;
+    }
+    true
+}
+
+// The sum of the first n counts.
+fn total(histogram: &[u16], vertices: u16) -> u64 {
+    let mut sum: u64 = 0;
+    let mut place: u16 = 0;
+    while place < vertices {
+        sum = std::num::wrapping_add_u64(sum, at(histogram, place) as u64);
+        place += 1;
+    }
+    sum
+}
+
+// Whether the first n counts are those of the first n distances, and as many in all as distances are
+// set.
+pub fn is_census(distances: &[u16], histogram: &[u16], vertices: u16) -> bool {
+    let unset = standing(distances, vertices, UNSET);
+    let set = std::num::wrapping_sub_u16(vertices, unset);
+    is_recount(distances, histogram, vertices) & (total(histogram, vertices) == set as u64)
+}
