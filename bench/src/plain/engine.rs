@@ -132,9 +132,7 @@ impl Run<'_> {
             Phase::InHand(edge, target) => {
                 let farther = self.layer + 1;
                 let distance = &mut self.distances[usize::from(target)];
-                if *distance == UNSET {
-                    self.histogram[usize::from(farther)] += 1;
-                }
+                self.histogram[usize::from(farther)] += u16::from(*distance == UNSET);
                 *distance = farther;
                 Phase::Marked(edge, target)
             }

@@ -6,12 +6,8 @@ use mathlib.Core.Bool.{Bool, true, false, cond, _&&_}
 use lib.Dec.{eqb, ltb}
 use borrow.Author.Tests.{eqb-true, eqb-false, eq-eqb, ne-eqb, ltb-true, ltb-false, lt-ltb, le-ltb}
 use Rattle.pennant.specs.Held.{only}
-use Rattle.pennant.proofs.Laws.{only-self}
+use Rattle.pennant.proofs.Laws.{only-self, only-other}
 use Rattle.bag.specs.Promises.{inPool}
-
--- a node does not count at another
-pub only-other : (i x : ℕ) → (x ≡ i → ⊥) → only i x ≡ 0
-only-other i x h = ap {B = ℕ} (λ (b : Bool). cond b 1 0) (ne-eqb x i h)
 
 -- where it does not count, it is another
 pub other-only : (i x : ℕ) → only i x ≡ 0 → x ≡ i → ⊥

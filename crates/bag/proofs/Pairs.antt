@@ -8,11 +8,11 @@ use lib.Seq.{getD-set-same, getD-set-other}
 use Rattle.lists.specs.Lists.{sumOf}
 use Rattle.pennant.specs.Pennant.{Tree, tip, pennantUnion, pennantFirst, pennantSecond}
 use Rattle.pennant.specs.Held.{weighTree, weighSlot, only}
-use Rattle.pennant.proofs.Laws.{only-self}
+use Rattle.pennant.proofs.Laws.{only-self, only-other}
 use Rattle.bag.specs.Nodes.{treeAt, pennantAt}
 use Rattle.bag.specs.Promises.{inPool}
 use Rattle.bag.specs.Steps.{usesAt, Pennants, Halved}
-use Rattle.bag.proofs.Only.{only-other, other-only, in-pool-once, in-pool-within}
+use Rattle.bag.proofs.Only.{other-only, in-pool-once, in-pool-within}
 use Rattle.bag.proofs.Kept.{Same, tree-kept}
 
 -- a slot that is filled

@@ -72,7 +72,7 @@ module _ {g : Given} {distances parents histogram left right values : List ℕ} 
   unfolding stateOf labelsOf
   spent-ran at over told =
       ran-as (ap (play (graph g) (g .source) (g .workers)) (sym (take-all used (g .schedule) over)) ∙ at .same) told refl (sym (words-again distances))
-      (sym (words-again parents)) (at .census)
+      (sym (words-again parents)) (at .recounted)
 
   module _ (turn : Turn g distances parents histogram left right values inputs outputs phases pending found used effective layer Close) where
     -- what holds before the byte
@@ -150,7 +150,7 @@ module _ {g : Given} {distances parents histogram left right values : List ℕ} 
           ∙ play-append (graph g) (openingRun (graph g) (g .source) (g .workers)) (take (used + 1) (g .schedule)) rest
           ∙ ap (λ (r : Run). playFrom (graph g) r rest) (rw ended at (next-run turn))
           ∙ play-finished (graph g) last rest refl)
-          told refl (sym (words-again distances)) (sym (words-again parents)) (at .census)
+          told refl (sym (words-again distances)) (sym (words-again parents)) (at .recounted)
 
       -- what gathering takes for granted
       pub gather-able : (g .workers ≤ maxWorkers) × Pooled left right (getD inputs 0 pastBag ∷ take (g .workers) outputs)
@@ -187,7 +187,7 @@ module _ {g : Given} {distances parents histogram left right values : List ℕ} 
             outputs-long = refl;
             phases-long = refl;
           })
-          (at .census)
+          (at .recounted)
           (moved-again (gathered-moved (enough at) (some-worker at) values (at .pool) all-bare gathered)
           (opened-moved (g .workers) (some-worker at) (few-workers at) (gathered-pooled .formed .0)))
           (λ w h. rw (opened-free w) tt)

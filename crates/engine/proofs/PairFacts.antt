@@ -60,7 +60,7 @@ module _ {g : Given} {distances parents histogram left right values : List ℕ} 
         outputs-long = same-outputs ∙ now .long .outputs-long;
         phases-long = now .long .phases-long;
       })
-      (now .census) moved (now .in-rows) (omega (arith, now .waiting, inputs-size)) (now .stowed ∙ sym outputs-size) made (ap (replaceWorkers (now-state now)) crew′)
+      (now .recounted) moved (now .in-rows) (omega (arith, now .waiting, inputs-size)) (now .stowed ∙ sym outputs-size) made (ap (replaceWorkers (now-state now)) crew′)
 
   -- Kind 1.
 

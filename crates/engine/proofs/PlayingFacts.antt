@@ -108,7 +108,7 @@ pub record Going (g : Given) (distances parents histogram left right values : Li
   pub whole : weighNodes one left right (bagsOf (g .workers) inputs outputs) + weighFree one left ≡ g .workers * g .vertices
   pub in-rows : (w : ℕ) → w < g .workers → InRows (g .offsets) (g .vertices) (getD phases w Free)
   -- the counts are a recount of the distances
-  pub census : histogram ≡ recount (map optionOf distances)
+  pub recounted : histogram ≡ recount (map optionOf distances)
   -- so many numbers are in the input bags, and workers hold a vertex
   pub waiting : pending ≡ sumOf size (map (heldBy left right values) (take (g .workers) inputs)) + sumOf heldOf (take (g .workers) phases)
   -- so many numbers are in the output bags
@@ -200,7 +200,7 @@ module _ {g : Given} {distances parents histogram left right values : List ℕ} 
 
     -- there are n counts
     pub counts-long : length histogram ≡ g .vertices
-    counts-long = ap length (at .census) ∙ recount-long (map optionOf distances) ∙ length-map distances optionOf ∙ at .long .distances-long
+    counts-long = ap length (at .recounted) ∙ recount-long (map optionOf distances) ∙ length-map distances optionOf ∙ at .long .distances-long
 
     -- the layer is below n
     pub layer-low : layer < g .vertices
@@ -289,7 +289,7 @@ module _ {g : Given} {distances parents histogram left right values : List ℕ} 
         → stateOf distances′ parents′ (crew g left′ right′ values′ inputs′ outputs′ phases′) layer′ ≡ after
         → Going g distances′ parents′ histogram′ left′ right′ values′ inputs′ outputs′ phases′ pending′ found′ (used + 1) (effective + 1) layer′
     unfolding orElse
-    play-on long census moved in-rows waiting stowed made same = record {
+    play-on long recounted moved in-rows waiting stowed made same = record {
       ready = at .ready;
       long = long;
       within = omega (arith, turn .below);
@@ -298,7 +298,7 @@ module _ {g : Given} {distances parents histogram left right values : List ℕ} 
       pool = moved-pool (at .pool) moved;
       whole = moved .nodes one ∙ at .whole;
       in-rows = in-rows;
-      census = census;
+      recounted = recounted;
       waiting = waiting;
       stowed = stowed;
     }
@@ -316,7 +316,7 @@ module _ {g : Given} {distances parents histogram left right values : List ℕ} 
       pool = at .pool;
       whole = at .whole;
       in-rows = at .in-rows;
-      census = at .census;
+      recounted = at .recounted;
       waiting = at .waiting;
       stowed = at .stowed;
     }

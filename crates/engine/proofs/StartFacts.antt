@@ -99,7 +99,7 @@ module _ {source P : ℕ} {schedule offsets targets distances parents histogram 
       pool = moved-pool (opened .pool) moved;
       whole = moved .nodes one ∙ opened .whole ∙ ap (λ (k : ℕ). P * k) (sym (same .of-distances));
       in-rows = λ w here. rw (opened-free w) tt;
-      census = opened .counts;
+      recounted = opened .counts;
       waiting = omega (
         arith,
         opened-size P some-worker few-workers left′ right′ values′ b,

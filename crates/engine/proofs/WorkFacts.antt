@@ -130,7 +130,7 @@ module _ {g : Given} {distances parents histogram left right values : List ℕ} 
         (set (held-inputs at) w input′) (set (held-outputs at) w output′)
     pub long : Long g distances′ parents′ left′ right′ values′ inputs′ outputs′ phases
     -- the counts are a recount of the distances
-    pub census : histogram′ ≡ recount (map optionOf distances′)
+    pub recounted : histogram′ ≡ recount (map optionOf distances′)
     -- the vertex that it takes or holds is one of those pending
     pub taken : size input′ + 1 ≡ size held-input + heldOf phase
     -- so many more are in its output bag
@@ -175,7 +175,7 @@ module _ {g : Given} {distances parents histogram left right values : List ℕ} 
         outputs-long = worked .long .outputs-long;
         phases-long = length-set phases w next ∙ at .long .phases-long;
       })
-      (worked .census)
+      (worked .recounted)
       (worked .bags .moved)
       (set-each (InRows (g .offsets) (g .vertices)) (λ j. j < g .workers) phases w next Free
       (rw (at .long .distances-long) at (worked .moves .in-rows)) (at .in-rows))
@@ -256,7 +256,7 @@ module _ {g : Given} {distances parents histogram left right values : List ℕ} 
       outputs-long = at .long .outputs-long;
       phases-long = at .long .phases-long;
     };
-    census = at .census;
+    recounted = at .recounted;
     taken = omega (arith, ap heldOf free, free-none, ap size (begun .taken .held), weigh-rest one held-input (held-shaped left right values input) filled);
     found-more = refl;
   }
@@ -351,7 +351,7 @@ module _ {g : Given} {distances parents histogram left right values : List ℕ} 
         outputs-long = length-set outputs w more ∙ at .long .outputs-long;
         phases-long = at .long .phases-long;
       };
-      census = at .census;
+      recounted = at .recounted;
       taken = omega (arith, ap heldOf named, held-one (Named u e f t) (λ (same : Named u e f t ≡ Free). let z : _≡_ {A = ℕ} 0 1 = cc in omega arith));
       found-more = omega (arith, ap size (inserted .held), weigh-insert one t held-output);
     }
@@ -416,7 +416,7 @@ module _ {g : Given} {distances parents histogram left right values : List ℕ} 
     at .long .parents-long ∙ sym (at .long .distances-long),
     (
       layer-fits at,
-      (between, countable-now layer distances phase (omega (arith, at .long .distances-long, at .ready .rows .few-vertices)) (markable phase refl) (at .census)),
+      (between, countable-now layer distances phase (omega (arith, at .long .distances-long, at .ready .rows .few-vertices)) (markable phase refl) (at .recounted)),
     ),
   )
 
@@ -443,7 +443,7 @@ module _ {g : Given} {distances parents histogram left right values : List ℕ} 
       outputs-long = at .long .outputs-long;
       phases-long = at .long .phases-long;
     };
-    census = counts-recount phase advanced between (markable phase refl) (at .census) counted;
+    recounted = counts-recount phase advanced between (markable phase refl) (at .recounted) counted;
     taken = omega (arith, held-one phase (λ free. not-between (g .targets) (length distances) free (λ never. never) between));
     found-more = refl;
   }

@@ -6,6 +6,7 @@ use Rattle.lists.specs.Lists.{overlay, chainFrom, numbersFrom, sumsFrom, elem, 
 use Rattle.graph.specs.Graph.{edges, offsetsOf, targetsOf}
 use Rattle.graph.specs.File.{word, wordsAt, vertexCount, edgeCount, headIndex, target, next, heads, recordTargets, recordNexts, chain, chains, reached, graphOf}
 use Rattle.graph.specs.Read.{outsideSizes, headerRefusals, scanRefusals, chainRefusals, rowsShort, clearsMarks}
+use Rattle.graph.specs.BenchFiles.{wordsA}
 use Rattle.graph.specs.Encode.{bytesOf}
 use Rattle.pennant.specs.Pennant.{pennantUnion, pennantFirst, pennantSecond}
 use Rattle.pennant.specs.Bag.{emptyBag, insertPennant, bagInsert, insertFilled, adderSum, adderCarry, addFrom, bagUnion, splitFirst, splitSecond}
@@ -33,8 +34,8 @@ unfolding first overlay chainFrom numbersFrom sumsFrom elem repeats lacks reache
 bench-cases = refl
 
 -- A's counts as they are kept, after all its bytes: two workers mark vertex 3, and it counts once
-pub kept-case : countsAt ((1 ∷ 2 ∷ []) ∷ (3 ∷ []) ∷ (3 ∷ []) ∷ [] ∷ []) 0 2 (scheduleA 8 0) 25 ≡ 1 ∷ 2 ∷ 1 ∷ 0 ∷ []
-unfolding numbersFrom sumOf edges pennantUnion pennantFirst pennantSecond emptyBag insertPennant bagInsert insertFilled adderSum adderCarry addFrom bagUnion
+pub kept-case : countsAt (graphOf (bytesOf wordsA)) 0 2 (scheduleA 8 0) 25 ≡ 1 ∷ 2 ∷ 1 ∷ 0 ∷ []
+unfolding chainFrom numbersFrom sumOf word wordsAt vertexCount edgeCount headIndex next target heads recordTargets recordNexts chain chains graphOf bytesOf flatten edges pennantUnion pennantFirst pennantSecond emptyBag insertPennant bagInsert insertFilled adderSum adderCarry addFrom bagUnion
     splitFirst splitSecond spread takeFrom takeRest takenNumber isEmpty atLeastTwo formOf eventOf openingLabels openingState holdAt look mark name move
     afterMove splitInputs uniteOutputs isFree allIdle unitedOutputs closed act tally step playFrom play stateAt firstMark addedAt countsAt
 kept-case = refl

@@ -9,7 +9,7 @@ use native.Mathlib.Decide.{decLe, ℕ-discrete}
 use native.Mathlib.Omega.{arith}
 use lib.ListN.{length}
 use borrow.Author.Tests.{ne-eqb}
-use Rattle.numbers.specs.Numbers.{maxVertices}
+use Rattle.numbers.specs.Numbers.{maxVertices, maxWorkers}
 use Rattle.lists.specs.Lists.{numbersFrom, sumOf}
 use Rattle.lists.proofs.Sums.{sum-append, sum-at, sum-both, sum-within, sum-only}
 use Rattle.lists.proofs.Tests.{length-range}
@@ -96,7 +96,7 @@ module _ {g : Graph} {source : ℕ} (ground : Ground g source) where
         omega (arith, both, weigh-all one (s .workers), counts-most (length g) P all below few)
 
     -- the two bags of a worker together hold fewer than 2^16 numbers
-    held-small : P ≤ 8 → length g ≤ maxVertices → (w : ℕ)
+    held-small : P ≤ maxWorkers → length g ≤ maxVertices → (w : ℕ)
         → size (workerAt (s .workers) w .input) + size (workerAt (s .workers) w .output) < 2 ^ slotCount
     unfolding held
     held-small p q w =
@@ -130,7 +130,7 @@ module _ {g : Graph} {source : ℕ} (ground : Ground g source) where
             label-below (s .labels) p (h .labels-sound .distances-all) (n .here)
 
   -- every sound state fits
-  pub sound-fits : {P : ℕ} {s : State} → P ≤ 8 → Sound g source P s → Fitting g P s
+  pub sound-fits : {P : ℕ} {s : State} → P ≤ maxWorkers → Sound g source P s → Fitting g P s
   sound-fits {s = s} p h = record {
     all-there = h .crew-sound .crew;
     all-held = held-most h;

@@ -5,26 +5,25 @@ use mathlib.Core.Option.{Option, none, some}
 use Prim.Native.Nat.{ℕ, suc, _+_, _≤_, _<_}
 use native.Mathlib.Decide.{decLe}
 use native.Mathlib.Omega.{arith}
-use lib.Dec.{eqb}
 use lib.ListN.{length, getD, set, replicate, length-map, length-set, length-replicate, List·getD-eq-default}
 use lib.Seq.{set-getD, ext-getD}
-use borrow.Author.Tests.{eq-eqb, ne-eqb}
 use Rattle.lists.specs.Lists.{numbersFrom, sumOf, someOne}
 use Rattle.lists.proofs.Parts.{getD-repeated}
 use Rattle.lists.proofs.Replaced.{map-replicate, set-cases}
 use Rattle.lists.proofs.Sums.{sum-set, sum-at, sum-none, sum-replicate, sum-within, sum-both, sum-map, sum-only}
-use Rattle.lists.proofs.Tests.{test-within, length-range, map-range-at}
+use Rattle.lists.proofs.Tests.{length-range, map-range-at}
+use Rattle.pennant.proofs.Laws.{only-self, only-other, only-few}
 use Rattle.model.specs.Histogram.{standsAt, recount, Counts}
 
 -- One distance.
 
 -- h stands at h
 stands-here : (h d : ℕ) → h ≡ d → standsAt h (some d) ≡ 1
-stands-here h d same = rw (eq-eqb h d same)
+stands-here h d same = rw same (only-self d)
 
 -- and nowhere else
 stands-apart : (h d : ℕ) → (h ≡ d → ⊥) → standsAt h (some d) ≡ 0
-stands-apart h d apart = rw (ne-eqb h d apart)
+stands-apart h d apart = only-other d h apart
 
 -- what isn't h doesn't stand there
 stands-not : (h : ℕ) (x : Option ℕ) → (x ≡ some h → ⊥) → standsAt h x ≡ 0
@@ -34,7 +33,7 @@ stands-not h (some d) apart = stands-apart h d (λ q. apart (ap some (sym q)))
 -- a distance counts once at most
 stands-few : (h : ℕ) (x : Option ℕ) → standsAt h x ≤ 1
 stands-few h none = omega arith
-stands-few h (some d) = test-within (eqb h d) 1 (λ q. omega arith)
+stands-few h (some d) = only-few d h
 
 -- one more distance is written, where there was none
 pub stands-set : (xs : List (Option ℕ)) (t k h : ℕ) → t < length xs → getD xs t none ≡ none

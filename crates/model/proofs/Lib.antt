@@ -28,6 +28,6 @@ pub mod Plays
 pub mod Rounds
 pub mod Steps
 pub mod Used
-pub mod Histograms
+pub mod KeptCounts
 pub mod Theorem
 pub mod Calls

@@ -31,7 +31,7 @@ module _ (g : Graph) (source : ℕ) where
     pub near : (v k : ℕ) → Walk g source v k → k ≤ d → isSet (distanceOf x v) ≡ true
     -- this layer has a vertex
     pub some-vertex : (v : ℕ) × Distance g source v d
-    -- each layer up to d has a vertex that is set
+    -- at least d + 1 vertices are set
     pub room : d + 1 + unsets (x .distances) ≤ length g
     -- and so has the next one, once one of it is set
     pub more-room : (v : ℕ) → distanceOf x v ≡ some (suc d) → d + 2 + unsets (x .distances) ≤ length g

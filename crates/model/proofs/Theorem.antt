@@ -21,7 +21,7 @@ use Rattle.model.proofs.Used.{play-more, told-all}
 use Rattle.model.proofs.Steps.{Good, ByteLeaves, step-next}
 use Rattle.model.proofs.Certificate.{certified-right}
 use Rattle.model.proofs.Fits.{sound-fits}
-use Rattle.model.proofs.Histograms.{kept-counts}
+use Rattle.model.proofs.KeptCounts.{kept-counts}
 use Rattle.model.proofs.Opening.{opening-sound, opening-opens}
 use Rattle.model.proofs.SerialRun.{serial-run}
 use Rattle.model.proofs.Costs.{opening-cost}
@@ -118,6 +118,6 @@ module _ {g : Graph} {source P : ℕ} {schedule : List ℕ} (a : Accepted g sour
     counted = told-all g source P schedule .counted;
     used-spent = told-all g source P schedule .spent;
     used-finished = told-all g source P schedule .ended;
-    census = kept-counts (accepted-ground a) schedule good-at (a .few-workers);
+    counts-told = kept-counts (accepted-ground a) schedule good-at (a .few-workers);
     fitting = λ k. sound-fits (accepted-ground a) (a .few-workers) (good-at k .sound);
   }

@@ -107,8 +107,7 @@ pub record Demand (g : Graph) (source P : ℕ) (schedule : List ℕ) : Type 0 wh
       → Finisher g source P schedule (play g source P schedule .used)
   -- (g) the counts as they are kept: "It must equal a recount of the distance list after each event", and what they
   -- tell (§7.9)
-  pub census : (k : ℕ) → k ≤ length schedule
-      → Counts (stateAt g source P schedule k .labels .distances) (stateAt g source P schedule k .layer)
-      (countsAt g source P schedule k)
+  pub counts-told : (k : ℕ) → Counts (stateAt g source P schedule k .labels .distances)
+      (stateAt g source P schedule k .layer) (countsAt g source P schedule k)
   -- for the engine's lists, at every moment
   pub fitting : (k : ℕ) → Fitting g P (stateAt g source P schedule k)

@@ -5,10 +5,11 @@ use mathlib.Core.Bool.{Bool, false, cond, not, _&&_}
 use mathlib.Core.List.{List, map}
 use mathlib.Core.Option.{Option, none, some}
 use Prim.Native.Nat.{ℕ, suc, _+_, _≤_}
-use lib.Dec.{eqb}
+use lib.Dec.{eqb, ltb}
 use lib.ListN.{length, getD}
 use Rattle.lists.specs.Lists.{numbersFrom, sumOf, someOne}
 use Rattle.graph.specs.Graph.{Graph}
+use Rattle.pennant.specs.Held.{only}
 use Rattle.schedule.specs.declared.Event.{Event}
 use Rattle.schedule.specs.declared.Event.the-variants.{Work, Split, Unite, Close, Malformed}
 use Rattle.schedule.specs.Events.{eventOf}
@@ -19,7 +20,7 @@ use Rattle.model.specs.Play.{stateAt}
 -- 1 for a distance that is written and is h
 abbrev pub standsAt : ℕ → Option ℕ → ℕ
 standsAt h none = 0
-standsAt h (some d) = cond (eqb h d) 1 0
+standsAt h (some d) = only d h
 
 -- "place h holds how many devices have the written distance h", for each h below n: "a recount of the distance list"
 -- (§6.11)
@@ -42,11 +43,13 @@ firstMark s (Unite w v) = false
 firstMark s Close = false
 firstMark s Malformed = false
 
--- 1 where byte k is used, marks a vertex that is unset at its turn, and so writes distance h = d + 1 (§6.11)
+-- 1 where byte k is used, marks a vertex that is unset at its turn, and so writes distance h = d + 1; a byte behind
+-- the finishing one has no turn (§6.11)
 unfoldable pub addedAt : Graph → ℕ → ℕ → List ℕ → ℕ → ℕ → ℕ
 addedAt g source P schedule h k =
     let s = stateAt g source P schedule k in
-    cond (not (s .finished) && firstMark s (eventOf (getD schedule k 0)) && eqb h (suc (s .layer))) 1 0
+    let used = ltb k (length schedule) && not (s .finished) in
+    cond (used && firstMark s (eventOf (getD schedule k 0)) && eqb h (suc (s .layer))) 1 0
 
 -- "Keep a list of n counts while the search runs": after k bytes, 1 at place 0 from the start, and what the bytes
 -- so far have added (§6.11)

@@ -1,7 +1,7 @@
 -- The laws of pennants and bags: the one place that the crates above name them by.
 
 -- Weights: the sum of any f over the numbers held, one law per operation; copies are f = only v, sizes f = one.
-pub use Rattle.pennant.proofs.Weights.{weigh-empty, weigh-insert, weigh-union, weigh-split, weigh-items, only-self, only-few}
+pub use Rattle.pennant.proofs.Weights.{weigh-empty, weigh-insert, weigh-union, weigh-split, weigh-items, only-self, only-other, only-few}
 pub use Rattle.pennant.proofs.Shapes.{weigh-rest}
 -- Empty or not, and the number taken.
 pub use Rattle.pennant.proofs.Weights.{empty-size, empty-bag, empty-weighs, filled-size, sized-filled, taken-held}

@@ -152,6 +152,10 @@ weigh-items f (x ∷ s) = omega (arith, weigh-slot-items f x, weigh-items f s, s
 pub only-self : (v : ℕ) → only v v ≡ 1
 only-self v = rw (eq-eqb v v refl)
 
+-- not in another
+pub only-other : (v x : ℕ) → (x ≡ v → ⊥) → only v x ≡ 0
+only-other v x apart = rw (ne-eqb x v apart)
+
 -- and at most once in any
 pub only-few : (v x : ℕ) → only v x ≤ 1
 only-few v x = test-within (eqb x v) 1 (λ e. omega arith)

@@ -2,12 +2,12 @@
 // longer than what is lent of them. What distances and parents hold after a search is left to the
 // caller; the counts must be those of the distances.
 use search::Answer;
-use searchkit::census::is_census;
 use searchkit::compare::are_labels_kept;
 use searchkit::compare::are_nodes_cleared;
 use searchkit::compare::is_left;
 use searchkit::compare::labelled;
 use searchkit::compare::used_nodes;
+use searchkit::histogram::are_counts;
 use searchkit::requests::Outcome;
 use searchkit::requests::Request;
 use searchkit::requests::Seen;
@@ -69,7 +69,7 @@ fn seen_of(answer: Answer) -> Seen {
 }
 
 // Whether all lists are as the answer says, but the first n labels of a search that was played; its
-// counts must be those of the distances.
+// counts must be those of the distances, and positive up to the layer.
 fn are_left(
     seen: Seen,
     request: Request,
@@ -88,7 +88,7 @@ fn are_left(
     let same = is_left(seen, request, offsets, targets, marks, rows, row_targets);
     let first = labelled(seen.number, request.vertices);
     let labels = are_labels_kept(distances, parents, histogram, first);
-    let counts = is_census(distances, histogram, first);
+    let counts = are_counts(seen, distances, histogram, request.vertices);
     let count = used_nodes(seen.number, request.vertices, request.workers);
     let nodes = are_nodes_cleared(left, right, values, count);
     same & labels & counts & nodes

@@ -1,6 +1,6 @@
 // The groups that are tables or draws: one loop goes through the cases of a group.
-use crate::census;
 use crate::drawn;
+use crate::histogram;
 use crate::tables;
 use libc::STDOUT_FILENO;
 use searchkit::beginnings;
@@ -63,21 +63,21 @@ fn with(sums: Sums, report: Report) -> Sums {
     }
 }
 
-// A case of a group of the census.
-fn census_report(group: u16, case: u16) -> Report {
+// A case of a group of the counts.
+fn histogram_report(group: u16, case: u16) -> Report {
     if group == FAN_GROUP {
-        return census::fan_report(case);
+        return histogram::fan_report(case);
     }
     if group == CUT_GROUP {
-        return census::cut_report(case);
+        return histogram::cut_report(case);
     }
-    census::path_report(case)
+    histogram::path_report(case)
 }
 
 // A case of a group.
 fn report_of(group: u16, case: u16) -> Report {
     if group >= FAN_GROUP {
-        return census_report(group, case);
+        return histogram_report(group, case);
     }
     if group == REFUSAL_GROUP {
         return tables::refusals_report(case);
@@ -152,6 +152,6 @@ pub fn run() {
     print_sums(RANDOM_GROUP, random_plans::ROUNDS, b"random schedules");
     print_sums(SIZE_GROUP, sizes::ROWS, b"sizes");
     print(FAN_GROUP, fans::CASES, b"census of fans");
-    print(CUT_GROUP, beginnings::CASES, b"census after each byte");
+    print_sums(CUT_GROUP, beginnings::CASES, b"census after each byte");
     print(PATH_GROUP, paths::CASES, b"census of a path");
 }

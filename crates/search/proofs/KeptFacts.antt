@@ -3,7 +3,6 @@ use mathlib.Core.Path.{_≡_, refl, sym, ap, _∙_, subst}
 use mathlib.Core.Bool.{Bool, true, false, cond}
 use mathlib.Core.List.{List, map}
 use Prim.Native.Nat.{ℕ, _<_}
-use native.Mathlib.Nat.{le-refl}
 use native.Mathlib.Omega.{arith}
 use lib.ListN.{length, take}
 use lib.Seq.{take-length}
@@ -113,7 +112,7 @@ module _ (file : List ℕ) (source P : ℕ) (schedule : List ℕ) (lent : Lent) 
       told : Counts (run .state .labels .distances) (run .state .layer) (countsAt g source P schedule (length schedule))
       told =
           subst (λ (s : State). Counts (s .labels .distances) (s .layer) (countsAt g source P schedule (length schedule))) all-bytes
-          (demanded .census (length schedule) (le-refl (length schedule)))
+          (demanded .counts-told (length schedule))
 
       -- and its list holds them
       counts : take (vertexCount file) (after .histogram) ≡ countsAt g source P schedule (length schedule)
@@ -157,6 +156,6 @@ module _ (file : List ℕ) (source P : ℕ) (schedule : List ℕ) (lent : Lent) 
       final = λ p v d h. demanded p .final (length schedule) v d (rw (all-bytes p, ← (labels p)) h);
       right-result = λ z. rw (labels (success-plays z)) (demanded (success-plays z) .right-result (whole z));
       link-by-link = λ z. rw (labels (success-plays z), ← (length-graph file)) (demanded (success-plays z) .link-by-link (whole z));
-      census = λ p. rw (labels p, layered p, counts p) (told p);
+      counts-told = λ p. rw (labels p, layered p, counts p) (told p);
       counts-kept = counts;
     }

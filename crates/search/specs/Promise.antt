@@ -78,7 +78,7 @@ module _ (file : List ℕ) (source P : ℕ) (schedule : List ℕ) (lent : call.L
         (labelsIn (vertexCount file) (after .distances) (after .parents))
     -- the caller's counts are a recount of the caller's distances, with 0 and 21 alike, and tell what counts tell ..
     -- (§7.9)
-    pub census : call.plays (r .number) ≡ true
+    pub counts-told : call.plays (r .number) ≡ true
         → Counts (labelsIn (vertexCount file) (after .distances) (after .parents) .distances) (r .layer)
         (take (vertexCount file) (after .histogram))
     -- .. and they are the counts as kept over the bytes of the schedule (§7.9)

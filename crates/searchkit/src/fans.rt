@@ -173,8 +173,9 @@ fn layer(width: u16, used: u16) -> usize {
     if used < each(width, 10, 2) { 1 } else { 2 }
 }
 
-// The first four counts after so many events, as digits: the source; a vertex of the row more from each
-// fourth event on; the last vertex once, from its first mark on, whoever marks it again.
+// The first four counts after so many events, as digits: the source; one more vertex of the row with
+// event 3 and with each fourth after it; the last vertex once, from its first mark on, whoever marks it
+// again.
 fn counts(width: u16, used: u16) -> u64 {
     let row = least(after(used) / 4, width) % 10;
     let last: u16 = if used < each(width, 7, 2) { 0 } else { 1 };

@@ -1,7 +1,7 @@
 // Inputs with every set of faults: each must give the first number of document 01's order, 1 (under
 // 4), 2, 1 (length), 4, 3, 7, 8, 9, 20, 5, 6, 21. A combination's binary digits say which faults
-// the input has, the first fault being the lowest digit; the highest digit is no fault, and says which
-// list is short.
+// the input has, the first fault being the lowest digit; the highest digit is a second fault of number
+// 20: the counts are short, as the node values are with the first.
 use crate::base::FILE;
 use crate::requests::Lengths;
 use crate::requests::Request;
@@ -33,7 +33,7 @@ pub fn expected(combination: u16) -> u16 {
         either(has(combination, 2048), 21, 0),
     );
     let chains = either(
-        has(combination, 256),
+        has(combination, 256) | has(combination, 4096),
         20,
         either(has(combination, 512), 5, late),
     );
@@ -82,21 +82,19 @@ pub fn make_schedule(schedule: &mut [u8], combination: u16) {
     }
 }
 
-// The lists at their need, but one of them: the node values, or the counts.
+// The lists at their need, but for the node values and the counts, which may be short.
 fn lent(combination: u16) -> Lengths {
     let need = needs(4, 4, 2, 0);
-    let is_short = has(combination, 256);
-    let is_counts = has(combination, 4096);
     Lengths {
         offsets: need.offsets,
         targets: need.targets,
         marks: need.marks,
         distances: need.distances,
         parents: need.parents,
-        histogram: either(is_short & is_counts, 3, 4) as usize,
+        histogram: either(has(combination, 4096), 3, 4) as usize,
         left: need.left,
         right: need.right,
-        values: either(is_short & !is_counts, 8, 9) as usize,
+        values: either(has(combination, 256), 8, 9) as usize,
     }
 }
 

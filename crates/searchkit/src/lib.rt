@@ -5,12 +5,12 @@
 pub mod base;
 pub mod beginnings;
 pub mod bench;
-pub mod census;
 pub mod compare;
 pub mod counts;
 pub mod events;
 pub mod fans;
 pub mod faults;
+pub mod histogram;
 pub mod labels;
 pub mod paths;
 pub mod plans;

@@ -22,7 +22,7 @@ use Rattle.model.proofs.HistogramFacts.{recount-long, recount-few, recount-set,
 use Rattle.workers.specs.declared.Phase.{Phase}
 use Rattle.workers.specs.declared.Phase.the-variants.{Free, Holding, InHand, Marked, Named}
 use Rattle.workers.specs.Shown.{phaseOf}
-use Rattle.workers.specs.Steps.{Between, Countable, countAt, countsAfter, Advanced}
+use Rattle.workers.specs.Steps.{Between, Countable, countMarked, countsAfter, Advanced}
 
 -- a phase whose mark keeps a recount: d + 1 is below n, and a target that has a distance has this one
 abbrev pub Markable : ℕ → ℕ → List ℕ → Phase → Type 0
@@ -49,13 +49,13 @@ countable-now layer distances (Named u e f t) few can is = tt
 module _ (distances histogram : List ℕ) (t place word : ℕ) (label : word ≡ getD distances t 0) where
   -- a target that is unset is counted
   pub count-unset : {count : ℕ} {histogram′ : List ℕ} → word ≡ unset → count ≡ getD histogram place 0 → histogram′ ≡ set histogram place (count + 1)
-      → histogram′ ≡ countAt t place distances histogram
-  unfolding countAt
+      → histogram′ ≡ countMarked t place distances histogram
+  unfolding countMarked
   count-unset q was put = rw (← label, q) (put ∙ ap (λ (k : ℕ). set histogram place (k + 1)) was)
 
   -- another is not
-  pub count-set : (word ≡ unset → ⊥) → histogram ≡ countAt t place distances histogram
-  unfolding countAt
+  pub count-set : (word ≡ unset → ⊥) → histogram ≡ countMarked t place distances histogram
+  unfolding countMarked
   count-set apart = rw (← label, ne-eqb word unset apart)
 
 -- the counts after a phase that is known
@@ -72,8 +72,8 @@ module _ (distances : List ℕ) {histogram : List ℕ} (layer t : ℕ) (below : 
   labels = map optionOf distances
 
   -- a mark counts what it makes of the labels
-  count-marked : countAt t (layer + 1) distances histogram ≡ recount (set labels t (some (layer + 1)))
-  unfolding countAt optionOf
+  count-marked : countMarked t (layer + 1) distances histogram ≡ recount (set labels t (some (layer + 1)))
+  unfolding countMarked optionOf
   count-marked = rw is (go (eqb (getD distances t 0) unset) refl)
     where
       -- the label by its word

@@ -68,15 +68,15 @@ Countable layer histogram (Marked u e f t) = Unit {0}
 Countable layer histogram (Named u e f t) = Unit {0}
 
 -- `mark` of t: one more at this distance, where t is unset
-unfoldable pub countAt : ℕ → ℕ → List ℕ → List ℕ → List ℕ
-countAt t distance distances histogram =
+unfoldable pub countMarked : ℕ → ℕ → List ℕ → List ℕ → List ℕ
+countMarked t distance distances histogram =
     cond (eqb (getD distances t 0) unset) (set histogram distance (getD histogram distance 0 + 1)) histogram
 
 -- the counts after `advance`: a mark counts, nothing else does
 abbrev pub countsAfter : Phase → ℕ → List ℕ → List ℕ → List ℕ
 countsAfter Free layer distances histogram = histogram
 countsAfter (Holding u e f) layer distances histogram = histogram
-countsAfter (InHand u e f t) layer distances histogram = countAt t (layer + 1) distances histogram
+countsAfter (InHand u e f t) layer distances histogram = countMarked t (layer + 1) distances histogram
 countsAfter (Marked u e f t) layer distances histogram = histogram
 countsAfter (Named u e f t) layer distances histogram = histogram
 

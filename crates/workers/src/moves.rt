@@ -10,7 +10,7 @@ ghost use Rattle.bag.specs.Nodes.{heldBy};
 ghost use Rattle.bag.specs.Promises.{Pooled, Inserted};
 ghost use Rattle.graph.specs.Steps.{GraphRows};
 ghost use Rattle.workers.specs.Steps.{InRows, holdFrom, lookAt, Between, Advanced, BegunFrom};
-ghost use Rattle.workers.specs.Steps.{Countable, countAt, countsAfter};
+ghost use Rattle.workers.specs.Steps.{Countable, countMarked, countsAfter};
 use crate::Begun;
 use crate::Phase;
 use crate::Stowed;
@@ -61,7 +61,7 @@ fn mark(target: u16, layer: u16, distances: &mut [u16], histogram: &mut [u16])
     requires { ⌜ getD (now histogram) (layer + 1) 0 + 1 < 65536 ⌝ }
     ensures { λ _. ⌜ now (distances .exit) ≡ set (now (distances .entry)) target (layer + 1) ⌝ }
     ensures { λ _. ⌜
-        now (histogram .exit) ≡ countAt target (layer + 1) (now (distances .entry)) (now (histogram .entry))
+        now (histogram .exit) ≡ countMarked target (layer + 1) (now (distances .entry)) (now (histogram .entry))
         ⌝ }
 {
     let distance = layer + 1;

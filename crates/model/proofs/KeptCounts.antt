@@ -4,12 +4,15 @@ use mathlib.Core.Path.{_≡_, refl, sym, ap, _∙_}
 use mathlib.Core.Bool.{Bool, true, false, cond, not, _&&_}
 use mathlib.Core.List.{List}
 use mathlib.Core.Option.{Option, none, some, Option·none-ne-some}
-use Prim.Native.Nat.{ℕ, zero, suc, _+_, _≤_}
+use Prim.Native.Nat.{ℕ, zero, suc, _+_, _≤_, _<_}
 use native.Mathlib.Nat.{zero-add}
+use native.Mathlib.Decide.{decLe}
 use native.Mathlib.Omega.{arith}
-use lib.Dec.{eqb}
+use lib.Dec.{eqb, ltb}
 use lib.ListN.{length, getD, set, take, replicate, length-replicate}
-use lib.Seq.{set-getD}
+use lib.Seq.{set-getD, take-all}
+use borrow.Author.Tests.{lt-ltb, le-ltb}
+use Rattle.numbers.specs.Numbers.{maxWorkers}
 use Rattle.lists.specs.Lists.{numbersFrom, sumOf}
 use Rattle.lists.proofs.Parts.{getD-repeated}
 use Rattle.lists.proofs.Replaced.{map-agree}
@@ -121,32 +124,52 @@ module _ {g : Graph} {source : ℕ} (ground : Ground g source) {P : ℕ} (schedu
       let own = stands-set unset source 0 h (omega arith) (getD-repeated (length g) source none) in
       omega (arith, sum-replicate (standsAt h) (length g) none)
 
-  -- after k bytes there stands at h what stood there at the start, and what the bytes have added
-  standing-at : (h k : ℕ) → k ≤ length schedule
-      → standsAt h (some 0) + sumOf (addedAt g source P schedule h) (numbersFrom 0 k) ≡ standing h (stateAt g source P schedule k .labels)
-  unfolding stateAt addedAt sumOf numbersFrom
-  standing-at h zero below = omega (arith, standing-start h)
-  standing-at h (suc k) below =
+  -- what byte k adds, by whether there is one
+  added-by : (h k : ℕ) (there : Bool) → ltb k (length schedule) ≡ there → let s = stateAt g source P schedule k in
+      addedAt g source P schedule h k ≡ cond ((there && not (s .finished)) && firstMark s (eventOf (getD schedule k 0)) && eqb h (suc (s .layer))) 1 0
+  unfolding addedAt
+  added-by h k there e =
+      let s = stateAt g source P schedule k in
+      ap (λ (b : Bool). cond ((b && not (s .finished)) && firstMark s (eventOf (getD schedule k 0)) && eqb h (suc (s .layer))) 1 0) e
+
+  -- it adds that to what stands at h, and past the schedule's end nothing does
+  standing-next : (h k : ℕ) → Dec (k < length schedule)
+      → standing h (stateAt g source P schedule (suc k) .labels) ≡ standing h (stateAt g source P schedule k .labels) + addedAt g source P schedule h k
+  unfolding stateAt
+  standing-next h k (yes below) =
       let r = play g source P (take k schedule) in
       let next = byte-adds h ground r (getD schedule k 0) (good k .sound) _ refl in
+      let played = ap (λ (q : Run). standing h (q .state .labels)) (play-more g source P schedule k below) in
+      omega (arith, added-by h k true (lt-ltb k (length schedule) below))
+  standing-next h k (no past) =
+      let same : take (suc k) schedule ≡ take k schedule = take-all (suc k) schedule (omega arith) ∙ sym (take-all k schedule (omega arith)) in
+      let played = ap (λ (l : List ℕ). standing h (play g source P l .state .labels)) same in
+      omega (arith, added-by h k false (le-ltb k (length schedule) (omega arith)))
+
+  -- after k bytes there stands at h what stood there at the start, and what the bytes have added
+  standing-at : (h k : ℕ)
+      → standsAt h (some 0) + sumOf (addedAt g source P schedule h) (numbersFrom 0 k) ≡ standing h (stateAt g source P schedule k .labels)
+  unfolding sumOf numbersFrom
+  standing-at h zero = omega (arith, standing-start h)
+  standing-at h (suc k) =
       let one-more = rw (zero-add k) at (sum-last (addedAt g source P schedule h) 0 k) in
-      omega (arith, ap (λ (q : Run). standing h (q .state .labels)) (play-more g source P schedule k below), standing-at h k (omega arith))
+      omega (arith, standing-next h k (decLe (suc k) (length schedule)), standing-at h k)
 
   -- so the counts as kept are a recount
-  kept-recount : (k : ℕ) → k ≤ length schedule → countsAt g source P schedule k ≡ recount (stateAt g source P schedule k .labels .distances)
+  kept-recount : (k : ℕ) → countsAt g source P schedule k ≡ recount (stateAt g source P schedule k .labels .distances)
   unfolding countsAt recount stateAt
-  kept-recount k below =
+  kept-recount k =
       let places = numbersFrom 0 (length g) in
-      rw (good k .sound .labels-sound .distances-all) (map-agree _ _ 0 places (λ i h. standing-at (getD places i 0) k below))
+      rw (good k .sound .labels-sound .distances-all) (map-agree _ _ 0 places (λ i h. standing-at (getD places i 0) k))
 
   -- and tell what counts tell
-  pub kept-counts : P ≤ 8 → (k : ℕ) → k ≤ length schedule
+  pub kept-counts : P ≤ maxWorkers → (k : ℕ)
       → Counts (stateAt g source P schedule k .labels .distances) (stateAt g source P schedule k .layer) (countsAt g source P schedule k)
   unfolding stateAt
-  kept-counts few k below =
+  kept-counts few k =
       let sound = good k .sound in
       let fits = sound-fits ground few sound in
       let s = stateAt g source P schedule k in
-      rw (kept-recount k below) (recount-counts (s .labels .distances) (s .layer)
+      rw (kept-recount k) (recount-counts (s .labels .distances) (s .layer)
       (λ v d e. rw (fits .distances-all) (fits .distances-below v d e))
       (layer-written (sound .labels-sound)))

@@ -1,8 +1,8 @@
--- `searchkit::census::standing` is safe and ends. The measure is how many vertices are left.
+-- `searchkit::histogram::standing` is safe and ends. The measure is how many vertices are left.
 use Prim.Native.Nat.{_≤_, _-_}
 use borrow.Author.Needs.{needs}
-use Rattle.searchkit.proofs.census.standing.Statement.{statement}
-use Rattle.searchkit.proofs.census.standing.Tie as tie
+use Rattle.searchkit.proofs.histogram.standing.Statement.{statement}
+use Rattle.searchkit.proofs.histogram.standing.Tie as tie
 
 abbrev Inv-loop : tie.InvT-loop
 Inv-loop distances vertices distance count₀ vertex₀ count vertex = vertex ≤ vertices

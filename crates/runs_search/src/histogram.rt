@@ -1,5 +1,7 @@
-// Searches cut at any byte, whose counts must be those of the distances so far: fans and the longest
-// path, whose counts are also known from the input alone, and a graph under drawn schedules.
+// Searches that are cut, whose counts must be those of the distances so far: fans and a graph under
+// drawn schedules, cut at every byte; the longest path, cut at nine places. The counts of fans and of the
+// path are also known from the input alone.
+use crate::drawn::played;
 use crate::drawn::searched;
 use crate::rooms;
 use crate::tables::called;
@@ -64,14 +66,14 @@ pub fn cut_report(case: u16) -> Report {
         &mut order,
     );
     events::draw(&mut schedule, 400, plan.mixture, plan.workers, plan.seed);
-    searched(
+    played(searched(
         &file,
         &schedule,
         plan,
         beginnings::lent(plan, case),
         &rows,
         &row_targets,
-    )
+    ))
 }
 
 // The longest path in these lists: every vertex that is reached stands alone at its distance.

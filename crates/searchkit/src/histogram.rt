@@ -1,6 +1,8 @@
 // How many vertices stand at each distance, counted apart from the library: for each place of the
 // counts all distances are looked at.
 use crate::labels::UNSET;
+use crate::requests::Seen;
+use crate::requests::is_played;
 use testkit::sample::after;
 use testkit::words::at;
 
@@ -43,10 +45,27 @@ fn total(histogram: &[u16], vertices: u16) -> u64 {
     sum
 }
 
-// Whether the first n counts are those of the first n distances, and as many in all as distances are
-// set.
-pub fn is_census(distances: &[u16], histogram: &[u16], vertices: u16) -> bool {
+// The first place of the first n whose count is 0; n where there is none.
+fn first_zero(histogram: &[u16], vertices: u16) -> u16 {
+    let mut place: u16 = 0;
+    while place < vertices {
+        if at(histogram, place) == 0 {
+            return place;
+        }
+        place += 1;
+    }
+    vertices
+}
+
+// Whether a search that was played left counts that are those of the first n distances, as many in all
+// as distances are set, and at least 1 at each place from 0 to the layer.
+pub fn are_counts(seen: Seen, distances: &[u16], histogram: &[u16], vertices: u16) -> bool {
+    if !is_played(seen.number) {
+        return true;
+    }
     let unset = standing(distances, vertices, UNSET);
     let set = std::num::wrapping_sub_u16(vertices, unset);
-    is_recount(distances, histogram, vertices) & (total(histogram, vertices) == set as u64)
+    let is_total = total(histogram, vertices) == set as u64;
+    let is_positive = seen.layer < first_zero(histogram, vertices) as usize;
+    is_recount(distances, histogram, vertices) & is_total & is_positive
 }

@@ -1,8 +1,8 @@
--- `searchkit::census::total` is safe and ends. The measure is how many places are left.
+-- `searchkit::histogram::total` is safe and ends. The measure is how many places are left.
 use Prim.Native.Nat.{_≤_, _-_}
 use borrow.Author.Needs.{needs}
-use Rattle.searchkit.proofs.census.total.Statement.{statement}
-use Rattle.searchkit.proofs.census.total.Tie as tie
+use Rattle.searchkit.proofs.histogram.total.Statement.{statement}
+use Rattle.searchkit.proofs.histogram.total.Tie as tie
 
 abbrev Inv-loop : tie.InvT-loop
 Inv-loop histogram vertices sum₀ place₀ sum place = place ≤ vertices
