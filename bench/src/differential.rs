@@ -159,7 +159,7 @@ fn trial(random: &mut Random, plan: Plan, tally: &mut Tally) -> Result<(), Strin
 
 /// A search after each of its events, in lists that a search has left, and leaves so again. A parent
 /// that changes is the work of two workers: both had marked the vertex before they named it, and only
-/// one of them found it unset.
+/// the first of the two marks found it unset.
 fn event_by_event(query: &Query, lists: &mut Lists, tally: &mut Tally) -> Result<(), String> {
     let mut parents = vec![UNSET; lists.words[PARENTS].len()];
     let mut marked_twice = false;
