@@ -2,9 +2,9 @@
 // `nodes` is working room, `found` has the counts.
 use crate::counts::add_numbers;
 use crate::counts::are_ones;
-use crate::counts::total;
 use crate::walk::nodes_of;
 use bag::Bag;
+use testkit::words::total;
 
 // Counts the numbers of a bag in the row at `base`, and says how many there are.
 pub fn add_bag(

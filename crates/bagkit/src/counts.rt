@@ -45,18 +45,6 @@ pub fn add_numbers(counts: &mut [u16], base: usize, nodes: &[u16], count: usize,
     }
 }
 
-// How many numbers are counted in the row at `base`.
-pub fn total(counts: &[u16], base: usize, places: usize) -> usize {
-    let mut sum = 0;
-    let mut value = 0;
-    while value < places {
-        let count = at_place(counts, std::num::wrapping_add_usize(base, value)) as usize;
-        sum = std::num::wrapping_add_usize(sum, count);
-        value += 1;
-    }
-    sum
-}
-
 // Moves the counts of one row to another.
 pub fn pour(counts: &mut [u16], from: usize, to: usize, places: usize) {
     let mut value = 0;

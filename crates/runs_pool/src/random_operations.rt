@@ -15,7 +15,6 @@ use bagkit::counts::is_sum;
 use bagkit::counts::lower;
 use bagkit::counts::pour;
 use bagkit::counts::raise;
-use bagkit::counts::total;
 use bagkit::family;
 use bagkit::walk::free_nodes;
 use testkit::group::Tally;
@@ -24,6 +23,7 @@ use testkit::random::leap;
 use testkit::random::next;
 use testkit::words::agree;
 use testkit::words::at;
+use testkit::words::total;
 
 const POOL_NODES: usize = 300;
 

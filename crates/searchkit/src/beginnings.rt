@@ -25,6 +25,7 @@ fn target(edge: u16) -> u16 {
     layer * 3 + edge % 3 + 1
 }
 
+// The edges, in the order of their sources.
 fn make_edges(sources: &mut [u16], row_targets: &mut [u16]) {
     let mut edge: u16 = 0;
     while edge < EDGES {
@@ -39,6 +40,7 @@ fn start(vertex: u16) -> u16 {
     if vertex < 10 { 3 * vertex } else { EDGES }
 }
 
+// Where every row starts, and the end of the last.
 fn make_rows(rows: &mut [u16]) {
     let mut vertex: u16 = 0;
     while vertex <= VERTICES {

@@ -5,6 +5,7 @@ use crate::requests::Seen;
 use crate::requests::is_played;
 use testkit::sample::after;
 use testkit::words::at;
+use testkit::words::total;
 
 // One more where it is wanted.
 fn with(count: u16, is_wanted: bool) -> u16 {
@@ -34,17 +35,6 @@ fn is_recount(distances: &[u16], histogram: &[u16], vertices: u16) -> bool {
     true
 }
 
-// The sum of the first n counts.
-fn total(histogram: &[u16], vertices: u16) -> u64 {
-    let mut sum: u64 = 0;
-    let mut place: u16 = 0;
-    while place < vertices {
-        sum = std::num::wrapping_add_u64(sum, at(histogram, place) as u64);
-        place += 1;
-    }
-    sum
-}
-
 // The first place of the first n whose count is 0; n where there is none.
 fn first_zero(histogram: &[u16], vertices: u16) -> u16 {
     let mut place: u16 = 0;
@@ -65,7 +55,7 @@ pub fn are_counts(seen: Seen, distances: &[u16], histogram: &[u16], vertices: u1
     }
     let unset = standing(distances, vertices, UNSET);
     let set = std::num::wrapping_sub_u16(vertices, unset);
-    let is_total = total(histogram, vertices) == set as u64;
+    let is_total = total(histogram, 0, vertices as usize) == set as usize;
     let is_positive = seen.layer < first_zero(histogram, vertices) as usize;
     is_recount(distances, histogram, vertices) & is_total & is_positive
 }

@@ -91,6 +91,18 @@ pub fn at_place(list: &[u16], place: usize) -> u16 {
     if place < list.len() { list[place] } else { 0 }
 }
 
+// The sum of the places from `base` on, so many of them.
+pub fn total(list: &[u16], base: usize, places: usize) -> usize {
+    let mut sum = 0;
+    let mut place = 0;
+    while place < places {
+        let count = at_place(list, std::num::wrapping_add_usize(base, place)) as usize;
+        sum = std::num::wrapping_add_usize(sum, count);
+        place += 1;
+    }
+    sum
+}
+
 // How many places a list has beyond one short of its need: 0, 1 or 6.
 pub fn extra(choice: u16) -> usize
     ensures { λ r. ⌜ r < 100000 ⌝ }

@@ -1,14 +1,14 @@
--- `bagkit::counts::total` is safe and ends. The loop goes over the places of a row; the measure is what is left of them.
+-- `testkit::words::total` is safe and ends. The measure is how many places are left.
 use Prim.Native.Nat.{_-_}
 use borrow.Author.Needs.{needs}
-use Rattle.bagkit.proofs.counts.total.Statement.{statement}
-use Rattle.bagkit.proofs.counts.total.Tie as tie
+use Rattle.testkit.proofs.words.total.Statement.{statement}
+use Rattle.testkit.proofs.words.total.Tie as tie
 
 abbrev Inv-loop : tie.InvT-loop
-Inv-loop counts base places sum₀ value₀ sum value = Unit {0}
+Inv-loop list base places sum₀ place₀ sum place = Unit {0}
 
 abbrev μ-loop : tie.MeasureT-loop
-μ-loop counts base places sum₀ value₀ sum value = places - value
+μ-loop list base places sum₀ place₀ sum place = places - place
 
 loop-holds : tie.Need-loop-holds Inv-loop μ-loop
 loop-holds c = search needs
@@ -25,8 +25,8 @@ cast-count c = search needs
 wrapping-add-usize-requires-2 : tie.Need-wrapping-add-usize-requires-2 Inv-loop μ-loop
 wrapping-add-usize-requires-2 c κs = search needs
 
-add-value : tie.Need-add-value Inv-loop μ-loop
-add-value c = search needs
+add-place : tie.Need-add-place Inv-loop μ-loop
+add-place c = search needs
 
 loop-less : tie.Need-loop-less Inv-loop μ-loop
 loop-less c = search needs
@@ -48,7 +48,7 @@ total-spec =
     at-place-requires
     cast-count
     wrapping-add-usize-requires-2
-    add-value
+    add-place
     loop-less
     loop-again
     returns)
