@@ -1,8 +1,10 @@
 //! The differential test: the proved library through its C interface beside the plain one. Random
 //! cases of every call, with good and damaged inputs; number, answer and every place of every list
 //! must agree, and the census with a recount of the distances, in short schedules after each event.
-//! Every number, every list that is too short and a vertex that two workers mark must have come up.
+//! Every number, every list that is too short, every event byte and a vertex that two workers mark must
+//! have come up.
 
+mod bytes;
 mod cases;
 mod files;
 mod labels;
@@ -150,7 +152,11 @@ fn trial(random: &mut Random, plan: Plan, tally: &mut Tally) -> Result<(), Strin
         tally.short_alone(call, list);
     }
     match (call, outcome.number) {
-        (Call::Search, DONE | SPENT) => searched(&query, outcome, lists, tally),
+        (Call::Search, DONE | SPENT) => {
+            tally.played(query.schedule);
+            bytes::with_strays(random, &query, &mut lists, tally)?;
+            searched(&query, outcome, lists, tally)
+        }
         (Call::Read, DONE) => reread(outcome, lists, tally),
         (Call::Write, DONE) => written(lists, tally),
         _ => Ok(()),
@@ -267,12 +273,14 @@ fn written(lists: Lists, tally: &mut Tally) -> Result<(), String> {
 }
 
 /// Cases `first` to `first + count - 1` of a seed. From 0 on the fixed cases come before them, and
-/// every number, every short list and a vertex marked twice are demanded.
+/// every number, every short list, every byte and a vertex marked twice are demanded.
 pub fn differential(count: u64, seed: u64, first: Option<u64>) -> Result<(), String> {
     println!("differential test: {count} cases, seed {seed}");
     let mut tally = Tally::default();
     if first.is_none() {
         bench(&mut tally)?;
+        bytes::each_alone(&mut tally)?;
+        bytes::each_effective(&mut tally)?;
         longest(seed, &mut tally)?;
         edges(seed, &mut tally)?;
     }

@@ -104,6 +104,18 @@ pub fn bytes_of(words: &[u16]) -> Vec<u8> {
     words.iter().flat_map(|word| word.to_le_bytes()).collect()
 }
 
+/// The bytes that a schedule of P workers may have (docs/SPECIFICATION.md, §5.2), each made as
+/// 64 × kind + 8 × w + v.
+pub fn event_bytes(workers: usize) -> Vec<u8> {
+    let works = (0..workers).map(|w| 8 * w);
+    let others = move |w: usize| (0..workers).filter(move |&v| v != w);
+    let pairs = (0..workers).flat_map(move |w| others(w).map(move |v| 8 * w + v));
+    let splits = pairs.clone().map(|pair| 64 + pair);
+    let unites = pairs.map(|pair| 128 + pair);
+    let bytes = works.chain(splits).chain(unites).chain([192]);
+    bytes.map(|byte| byte as u8).collect()
+}
+
 /// The kinds of schedule.
 #[derive(Clone, Copy, Debug, PartialEq, Eq)]
 pub enum Kind {

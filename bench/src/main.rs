@@ -1,8 +1,10 @@
 //! The command line: the benchmark, the differential test, and one row's calls for a profiler.
 
 mod differential;
+mod form;
 mod proved;
 mod table;
+mod timing;
 
 use hopbench::calls::plain_search;
 use hopbench::inputs::KINDS;
@@ -13,6 +15,8 @@ const USAGE: &str = "usage:
   hopbench table [REPEATS MICROSECONDS]
       the benchmark, as Markdown: 15 repeats in turns of 10 ms, then 101 in turns of 200 µs; or
       REPEATS in turns of MICROSECONDS
+  hopbench form [REPEATS]
+      the form check alone, as Markdown: 51 repeats, or REPEATS
   hopbench differential [CASES [SEED [FIRST]]]
       the differential test; 20000 cases, seed 1; with FIRST only those cases from FIRST on
   hopbench one KIND N P SCHEDULE COUNT
@@ -33,14 +37,14 @@ fn one(kind: &str, n: &str, workers: &str, schedule: &str, count: &str) -> Resul
         return Err(USAGE.into());
     };
     let input = table::Input::of_size(number(n)?, workers, schedule).ok_or(USAGE)?;
-    let (search, query): (table::Search, _) = match kind {
+    let (search, query): (timing::Search, _) = match kind {
         "proved" => (proved::search, input.whole()),
         "plain" => (plain_search, input.whole()),
         "setup-proved" => (proved::search, input.set_up()),
         "setup-plain" => (plain_search, input.set_up()),
         _ => return Err(USAGE.into()),
     };
-    table::repeat(search, &query, &mut input.lists(), number(count)?);
+    timing::repeat(search, &query, &mut input.lists(), number(count)?);
     println!("{}", input.events());
     Ok(())
 }
@@ -56,6 +60,8 @@ fn run(arguments: &[&str]) -> Result<(), String> {
             shortest: Duration::from_micros(number(micros)?),
             repeats: number::<usize>(repeats)?.max(1),
         }),
+        ["form"] => form::form(51),
+        ["form", repeats] => form::form(number::<usize>(repeats)?.max(1)),
         ["differential"] => differential::differential(20_000, 1, None),
         ["differential", count] => differential::differential(number(count)?, 1, None),
         ["differential", count, seed] => {

@@ -2,13 +2,14 @@
 //! first, then timed in turn. Writes Markdown tables.
 
 use crate::proved;
+use crate::timing::{batch_size, print_heading, repeat, time, Spread, ENGINES};
 use hopbench::calls::{plain_search, Outcome, Query};
 use hopbench::inputs::{file_of, finishing_schedule, layered_graph, Kind, Random, KINDS};
 use hopbench::lists::{ample, Lists, DISTANCES};
 use hopbench::plain::numbers::{DONE, SPENT};
 use hopbench::queue;
 use std::hint::black_box;
-use std::time::{Duration, Instant};
+use std::time::Duration;
 
 const SIZES: [(usize, usize); 3] = [(64, 512), (512, 4_096), (4_096, 32_768)];
 const WORKERS: [usize; 3] = [1, 2, 8];
@@ -95,16 +96,6 @@ impl Input {
     }
 }
 
-/// A search of either engine.
-pub type Search = fn(&Query, &mut Lists) -> Outcome;
-
-/// Calls a search `count` times.
-pub fn repeat(search: Search, query: &Query, lists: &mut Lists, count: usize) {
-    for _ in 0..count {
-        black_box(search(black_box(query), lists));
-    }
-}
-
 fn queue_search(input: &Input, lists: &mut Lists, places: &mut [u16]) -> u32 {
     let parts = lists.parts();
     queue::search(&input.file, 0, parts.rows, parts.labels, places)
@@ -139,36 +130,12 @@ fn compare(input: &Input) -> Result<u32, String> {
     Ok(whole.answer[2])
 }
 
-/// Nanoseconds of each call in a batch.
-fn time(count: usize, mut batch: impl FnMut(usize)) -> f64 {
-    let start = Instant::now();
-    batch(count);
-    start.elapsed().as_nanos() as f64 / count as f64
-}
-
-/// How many calls make a batch so long.
-fn batch_size(shortest: Duration, mut batch: impl FnMut(usize)) -> usize {
-    let mut count = 1;
-    loop {
-        let start = Instant::now();
-        batch(count);
-        let took = start.elapsed();
-        if took >= shortest {
-            return count;
-        }
-        let times = shortest.as_secs_f64() / took.as_secs_f64().max(1e-9);
-        count = ((count as f64 * times * 1.1) as usize).clamp(count + 1, 10 * count);
-    }
-}
-
 /// One repeat's nanoseconds per call: (proved, plain) each.
 struct Repeat {
     whole: [f64; 2],
     set_up: [f64; 2],
     queue: f64,
 }
-
-const ENGINES: [Search; 2] = [proved::search, plain_search];
 
 fn measure(input: &Input, turns: &Turns) -> Vec<Repeat> {
     let shortest = turns.shortest;
@@ -198,30 +165,6 @@ fn measure(input: &Input, turns: &Turns) -> Vec<Repeat> {
             queue: time(queue_size, |count| queued(&mut lists, count)),
         })
         .collect()
-}
-
-/// Median, and what one in ten is below and above.
-struct Spread {
-    median: f64,
-    low: f64,
-    high: f64,
-}
-
-impl Spread {
-    fn new(values: impl Iterator<Item = f64>) -> Self {
-        let mut values: Vec<f64> = values.collect();
-        values.sort_by(f64::total_cmp);
-        let at = |tenths: usize| values[(values.len() - 1) * tenths / 10];
-        Spread {
-            median: at(5),
-            low: at(1),
-            high: at(9),
-        }
-    }
-
-    fn ratio(&self) -> String {
-        format!("{:.2} ({:.2}–{:.2})", self.median, self.low, self.high)
-    }
 }
 
 /// A row's times.
@@ -286,7 +229,7 @@ impl Row {
 
 const CAPTION: &str = "\
 Set-up is the same search with an empty schedule; events are the whole call less its set-up, for each \
-event used, with the schedule's form check. Ratios are proved / plain; the queue search reads the same \
+event used, with the form check's look-ups. Ratios are proved / plain; the queue search reads the same \
 file and needs no schedule.";
 
 const HEADINGS: [&str; 15] = [
@@ -306,11 +249,6 @@ const HEADINGS: [&str; 15] = [
     "queue µs",
     "proved / queue",
 ];
-
-fn print_heading(headings: &[String]) {
-    println!("| {} |", headings.join(" | "));
-    println!("|{}", "---|".repeat(headings.len()));
-}
 
 /// The rows of the large table, in its order.
 fn inputs() -> impl Iterator<Item = Input> {

@@ -2,7 +2,7 @@
 //! malformed.
 
 use super::files::Made;
-use hopbench::inputs::{event, finishing_schedule, Kind, Random, ALL_KINDS};
+use hopbench::inputs::{event, event_bytes, finishing_schedule, Kind, Random, ALL_KINDS};
 
 /// Full rounds, cut to a length.
 pub fn rounds(workers: usize, length: usize) -> Vec<u8> {
@@ -49,6 +49,13 @@ pub fn spoil(random: &mut Random, schedule: &mut Vec<u8>, workers: usize) {
         random.below(schedule.len() + 1)
     };
     schedule.insert(place, other);
+}
+
+/// A byte that no schedule of P workers may have.
+pub fn stray(random: &mut Random, workers: usize) -> u8 {
+    let known = event_bytes(workers);
+    let strays: Vec<u8> = (0..=u8::MAX).filter(|byte| !known.contains(byte)).collect();
+    random.pick(&strays)
 }
 
 /// A well-formed schedule for this file, which is accepted if `sound`. P is from 1 to 8.

@@ -1,9 +1,12 @@
-//! What came up: how often each call gave each number, which lists were found too short alone, and
-//! whether two workers marked the same vertex.
+//! What came up: how often each call gave each number, which lists were found too short alone, which
+//! event bytes were played or refused, and whether two workers marked the same vertex.
 
 use super::lent;
 use hopbench::calls::{Call, CALLS};
+use hopbench::inputs::event_bytes;
 use hopbench::lists::{LISTS, NAMES};
+use hopbench::plain::numbers::MOST_WORKERS;
+use std::collections::BTreeMap;
 
 /// One above the greatest number.
 const NUMBERS: usize = 22;
@@ -12,6 +15,8 @@ const NUMBERS: usize = 22;
 pub struct Tally {
     numbers: [[usize; NUMBERS]; CALLS.len()],
     short: [[usize; LISTS]; CALLS.len()],
+    played: BTreeMap<u8, usize>,
+    refused: BTreeMap<u8, usize>,
     event_by_event: usize,
     marked_twice: usize,
 }
@@ -35,6 +40,32 @@ impl Tally {
     /// A call gave 20 for this list, which was one short, and no other was.
     pub fn short_alone(&mut self, call: Call, list: usize) {
         self.short[call as usize][list] += 1;
+    }
+
+    /// A drawn schedule was played.
+    pub fn played(&mut self, schedule: &[u8]) {
+        for &byte in schedule {
+            *self.played.entry(byte).or_default() += 1;
+        }
+    }
+
+    /// A drawn schedule was refused for this byte, which was its only stray one.
+    pub fn refused(&mut self, byte: u8) {
+        *self.refused.entry(byte).or_default() += 1;
+    }
+
+    /// How often each byte came up: a well-formed one in a schedule that was played, a malformed one in
+    /// a schedule that was refused for it.
+    fn bytes(&self) -> impl Iterator<Item = (u8, usize)> + '_ {
+        let well_formed = event_bytes(MOST_WORKERS);
+        (0..=u8::MAX).map(move |byte| {
+            let times = if well_formed.contains(&byte) {
+                &self.played
+            } else {
+                &self.refused
+            };
+            (byte, times.get(&byte).copied().unwrap_or(0))
+        })
     }
 
     /// A search was played event by event, and whether a vertex was seen to be marked by two workers.
@@ -62,6 +93,11 @@ impl Tally {
             }
             println!();
         }
+        if let Some((byte, times)) = self.bytes().min_by_key(|&(_, times)| times) {
+            println!(
+                "event bytes played, or malformed and refused: the rarest is {byte}, x {times}"
+            );
+        }
         println!(
             "searches played event by event: {}; with a vertex that two workers marked: {}",
             self.event_by_event, self.marked_twice
@@ -80,6 +116,8 @@ impl Tally {
             missing
                 .extend(unseen.map(|list| format!("{}: {} one short", call.name(), NAMES[list])));
         }
+        let unseen = self.bytes().filter(|&(_, times)| times == 0);
+        missing.extend(unseen.map(|(byte, _)| format!("search: event byte {byte}")));
         if self.marked_twice == 0 {
             missing.push("search: a vertex that two workers mark".into());
         }

@@ -1,6 +1,7 @@
 //! The search under a schedule: the tests in the order of docs/SPECIFICATION.md, §10.2, then the events.
 
 use super::bag::{Bag, Pool};
+use super::event::{malformed, Entry, Kind, TABLE};
 use super::file::File;
 use super::numbers::*;
 use super::{LabelLists, NodeLists, RowLists};
@@ -85,16 +86,18 @@ impl Run<'_> {
     /// Plays the schedule up to its finishing event: number, events used, effective events, layer.
     fn play(&mut self, schedule: &[u8]) -> [u32; 4] {
         let mut effective = 0;
-        for (used, &event) in (1..).zip(schedule) {
-            let w = usize::from(event >> 3 & 7);
-            let v = usize::from(event & 7);
-            let acted = match event >> 6 {
-                0 => self.work(w),
-                1 => self.split(w, v),
-                2 => self.unite(w, v),
+        for (place, &byte) in schedule.iter().enumerate() {
+            let Entry { kind, w, v } = TABLE[usize::from(byte)];
+            let (w, v) = (usize::from(w), usize::from(v));
+            let acted = match kind {
+                Kind::Work => self.work(w),
+                Kind::Split => self.split(w, v),
+                Kind::Unite => self.unite(w, v),
+                // A close: no malformed byte passes the form check.
                 _ => {
                     let closes = self.closes();
                     if closes && !self.next_layer() {
+                        let used = place as u32 + 1;
                         return [DONE as u32, used, effective + 1, self.layer.into()];
                     }
                     closes
@@ -183,24 +186,6 @@ impl Run<'_> {
         self.layer += u16::from(opens);
         opens
     }
-}
-
-/// Whether a byte is none of the forms of §5.2, or names a worker that isn't there.
-fn is_stray(event: u8, workers: u8) -> bool {
-    let (kind, w, v) = (event >> 6, event >> 3 & 7, event & 7);
-    let work = (kind == 0) & (v == 0) & (w < workers);
-    let pair = ((kind == 1) | (kind == 2)) & (w != v) & (w < workers) & (v < workers);
-    !(work | pair | (event == 192))
-}
-
-/// The form check of a whole schedule. It goes on behind the first stray byte: a loop without an
-/// exit takes many bytes at a time.
-fn malformed(schedule: &[u8], workers: usize) -> bool {
-    let workers = workers as u8;
-    schedule.len() > MOST_EVENTS
-        || schedule
-            .iter()
-            .fold(false, |stray, &event| stray | is_stray(event, workers))
 }
 
 /// What a search is asked for.

@@ -6,6 +6,7 @@
 pub mod bag;
 pub mod check;
 pub mod engine;
+pub mod event;
 pub mod file;
 pub mod numbers;
 pub mod page;

@@ -72,8 +72,9 @@ pub fn run(
     let mut used = 0;
     let mut effective = 0;
     let mut layer: u16 = 0;
+    let table = schedule::byte_table();
     while used < schedule.len() {
-        let event = schedule::decode(schedule[used]);
+        let event = schedule::look_up(&table, schedule[used]);
         used += 1;
         match event {
             Event::Work { worker: w } => {

@@ -1,12 +1,12 @@
 -- A list cut into pieces of one size: the pieces laid end to end are the list, none is empty, only the last may be short, and there is only one way
 -- to cut it so. And lists of lists laid end to end.
 use mathlib.Core.Path.{_≡_, refl, sym, ap, _∙_}
-use mathlib.Core.List.{List, [], _∷_, _++_, append-assoc, append-nil, flatten}
+use mathlib.Core.List.{List, [], _∷_, _++_, append-assoc, append-nil, map, flatten}
 use Prim.Native.Nat.{ℕ, zero, suc, _+_, _*_, _≤_, _<_}
 use native.Mathlib.Nat.{mul-zero, mul-suc}
 use native.Mathlib.Omega.{arith}
-use lib.ListN.{length, take, drop, length-append, length-take, length-drop, take-append-drop, drop-of-length-le}
-use lib.Seq.{take-all, take-at, drop-at}
+use lib.ListN.{length, getD, take, drop, length-append, length-take, length-drop, take-append-drop, drop-of-length-le, List·getD-append}
+use lib.Seq.{take-all, take-at, drop-at, getD-append-add}
 use Rattle.lists.specs.Lists.{chunksIn, chunks}
 
 -- lists of lists, one after the other
@@ -46,6 +46,23 @@ each-append size (l ∷ a) b h k = (h .0, each-append size a b (h .1) k)
 pub each-split : {A : Type 0} (size : ℕ) (a b : List (List A)) → Each size (a ++ b) → Each size a × Each size b
 each-split size [] b h = (tt, h)
 each-split size (l ∷ a) b h = let both = each-split size a b (h .1) in ((h .0, both .0), both .1)
+
+-- lists that are made so
+pub each-map : {A B : Type 0} (size : ℕ) (f : A → List B) → ((a : A) → length (f a) ≡ size) → (l : List A) → Each size (map f l)
+each-map size f h [] = tt
+each-map size f h (a ∷ l) = (h a, each-map size f h l)
+
+-- a place of one of them
+pub each-at : {A : Type 0} (size : ℕ) (l : List (List A)) (i j : ℕ) (d : A) → Each size l → i < length l → j < size
+    → getD (flatten l) (size * i + j) d ≡ getD (getD l i []) j d
+unfolding flatten
+each-at size [] i j d h below within = absurd (omega arith)
+each-at size (piece ∷ rest) zero j d h below within =
+    let here : size * 0 + j ≡ j = omega (arith, mul-zero size) in
+    rw here (List·getD-append piece (flatten rest) d j (omega (arith, h .0)))
+each-at size (piece ∷ rest) (suc i) j d h below within =
+    let later : size * suc i + j ≡ length piece + (size * i + j) = omega (arith, mul-suc size i, h .0) in
+    rw later (getD-append-add piece (flatten rest) (size * i + j) d ∙ each-at size rest i j d (h .1) (omega arith) within)
 
 -- all their places
 pub length-each : {A : Type 0} (size : ℕ) (l : List (List A)) → Each size l → length (flatten l) ≡ size * length l

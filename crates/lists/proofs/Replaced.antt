@@ -1,5 +1,5 @@
 -- Lists with elements replaced, and functions at each element.
-use Prim.Native.Nat.{ℕ, zero, suc, _<_}
+use Prim.Native.Nat.{ℕ, zero, suc, _+_, _<_}
 use native.Mathlib.Omega.{arith}
 use mathlib.Core.Path.{_≡_, refl, sym, ap₂, _∙_}
 use mathlib.Core.Bool.{Bool, true, false}
@@ -75,3 +75,12 @@ set-cases {R = R} l i j y d x h e here there = go (eqb j i) refl
     go : (b : Bool) → eqb j i ≡ b → R
     go true q = let same = eqb-true j i q in here same (sym (getD-set-same l i y d h) ∙ (rw same at e))
     go false q = there (eqb-false j i q) (sym (getD-set-other l i j y d (eqb-false j i q)) ∙ e)
+
+-- a list that has f at its first i places has it at one more where f i is put at place i
+pub set-next : {A : Type 0} (f : ℕ → A) (l : List A) (i : ℕ) (y d : A) → i < length l → y ≡ f i → ((k : ℕ) → k < i → getD l k d ≡ f k)
+    → (k : ℕ) → k < i + 1 → getD (set l i y) k d ≡ f k
+set-next f l i y d h new old k below = go (eqb k i) refl
+  where
+    go : (b : Bool) → eqb k i ≡ b → getD (set l i y) k d ≡ f k
+    go true q = let same = eqb-true k i q in rw same (getD-set-same l i y d h ∙ new)
+    go false q = let other = eqb-false k i q in getD-set-other l i k y d other ∙ old k (omega (arith, other))

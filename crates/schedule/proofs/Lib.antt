@@ -1,4 +1,5 @@
--- Facts about event bytes: Bytes for the crates above, CheckFacts for the proofs of this one.
+-- Facts about event bytes: Bytes and Schedules for the crates above, TableFacts and CheckFacts for the proofs of this one.
 pub mod Bytes
+pub mod TableFacts
 pub mod CheckFacts
 pub mod Schedules

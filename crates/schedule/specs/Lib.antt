@@ -1,3 +1,4 @@
--- Event bytes: what each means, and which schedules are refused.
+-- Event bytes: what each means, which entry of the table it has, and which schedules are refused.
 pub mod Events
+pub mod Table
 pub mod Check

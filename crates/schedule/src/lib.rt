@@ -1,9 +1,16 @@
-// A schedule (document 01: event sheet) is a list of event bytes. `decode` says what event a byte
-// is, and the engine plays by it. The form check tests bytes as they are, in their own width,
-// and answers by the same `eventOf`.
+// A schedule (document 01: event sheet) is a list of event bytes. `decode` says what event a byte is,
+// and the engine plays by it, byte after byte with `look_up`; `schedule_number` says whether a
+// schedule is taken. All of them look bytes up in one table, module `entries`.
 ghost use mathlib.Core.Path.{_≡_};
-ghost use Rattle.schedule.specs.Events.{eventOf, formOf, within};
-ghost use Rattle.schedule.specs.Check.{anyStray, scheduleNumber};
+ghost use Prim.Native.Nat.{_≤_, _<_};
+ghost use lib.ListN.{getD};
+ghost use Rattle.schedule.specs.Events.{eventOf, within};
+ghost use Rattle.schedule.specs.Table.{entryOf, byteTable};
+ghost use Rattle.schedule.specs.Check.{anyStray, Fits, scheduleNumber};
+
+mod entries;
+
+pub use entries::byte_table;
 
 // An event, by document 01's kinds 0 to 3; `Malformed` is a byte that is of none of their forms.
 pub enum Event {
@@ -17,35 +24,37 @@ pub enum Event {
 // A byte as a number: a cast by itself, so that its users have none to prove.
 fn wide(byte: u8) -> usize
     ensures { λ r. ⌜ r ≡ byte ⌝ }
+    ensures { λ r. ⌜ r < 256 ⌝ }
 {
     byte as usize
 }
 
-// The event of a byte's three parts.
-fn form(kind: usize, w: usize, v: usize) -> Event
-    ensures { λ r. ⌜ r ≡ formOf kind w v ⌝ }
+// What a byte's entry has in a place: kind in 0, w in 1, v in 2.
+fn entry(table: &[u8; 768], byte: usize, place: usize) -> usize
+    requires { ⌜ now table ≡ byteTable ⌝ }
+    requires { ⌜ byte < 256 ⌝ }
+    requires { ⌜ place < 3 ⌝ }
+    ensures { λ r. ⌜ r ≡ getD (entryOf (eventOf byte)) place 0 ⌝ }
 {
-    if kind == 0 {
-        return if v == 0 {
-            Event::Work { worker: w }
-        } else {
-            Event::Malformed
-        };
-    }
-    if kind == 3 {
-        return if w == 0 && v == 0 {
-            Event::Close
-        } else {
-            Event::Malformed
-        };
-    }
-    if w == v {
-        return Event::Malformed;
-    }
-    if kind == 1 {
-        Event::Split { taker: w, giver: v }
-    } else {
-        Event::Unite { giver: w, taker: v }
+    wide(table[3 * byte + place])
+}
+
+// The event of a byte, by the table that the caller lends: a run has it built once, ahead of its
+// events.
+pub fn look_up(table: &[u8; 768], byte: u8) -> Event
+    requires { ⌜ now table ≡ byteTable ⌝ }
+    ensures { λ r. ⌜ r ≡ eventOf byte ⌝ }
+{
+    let code = wide(byte);
+    let kind = entry(table, code, 0);
+    let w = entry(table, code, 1);
+    let v = entry(table, code, 2);
+    match kind {
+        0 => Event::Work { worker: w },
+        1 => Event::Split { taker: w, giver: v },
+        2 => Event::Unite { giver: w, taker: v },
+        3 => Event::Close,
+        _ => Event::Malformed,
     }
 }
 
@@ -53,34 +62,54 @@ fn form(kind: usize, w: usize, v: usize) -> Event
 pub fn decode(byte: u8) -> Event
     ensures { λ r. ⌜ r ≡ eventOf byte ⌝ }
 {
-    let code = wide(byte);
-    form(code / 64, code / 8 % 8, code % 8)
+    let table = byte_table();
+    look_up(&table, byte)
 }
 
-// The byte of a close: kind 3, w = v = 0.
-const CLOSE_BYTE: u8 = 64 * 3;
+// The kind of a malformed entry.
+const MALFORMED_KIND: usize = 4;
 
 // Whether a byte's event is one of document 01's and all its workers are there. It makes every test
-// and branches on none, so that the form check can take many bytes at a time.
-fn byte_fits(byte: u8, workers: u8) -> bool
+// and branches on none.
+fn byte_fits(table: &[u8; 768], byte: usize, workers: usize) -> bool
+    requires { ⌜ now table ≡ byteTable ⌝ }
+    requires { ⌜ byte < 256 ⌝ }
+    requires { ⌜ 1 ≤ workers ⌝ }
     ensures { λ r. ⌜ r ≡ within workers (eventOf byte) ⌝ }
 {
-    let kind = byte / 64;
-    let w = byte / 8 % 8;
-    let v = byte % 8;
-    let work = (kind == 0) & (v == 0) & (w < workers);
-    let pair = ((kind == 1) | (kind == 2)) & (w != v) & (w < workers) & (v < workers);
-    work | pair | (byte == CLOSE_BYTE)
+    let kind = entry(table, byte, 0);
+    let w = entry(table, byte, 1);
+    let v = entry(table, byte, 2);
+    (kind != MALFORMED_KIND) & (w < workers) & (v < workers)
 }
 
-// Whether some byte is outside document 01's forms, or names a worker of P or more.
-fn any_stray(bytes: &[u8], workers: u8) -> bool
+// For each byte whether it fits P workers: looked up once, ahead of a schedule in which it may stand
+// any number of times.
+fn bytes_that_fit(workers: usize) -> [bool; 256]
+    requires { ⌜ 1 ≤ workers ⌝ }
+    ensures { λ r. ⌜ Fits workers r ⌝ }
+{
+    let table = byte_table();
+    let mut fits = [false; 256];
+    let mut byte = 0;
+    while byte < 256 {
+        fits[byte] = byte_fits(&table, byte, workers);
+        byte += 1;
+    }
+    fits
+}
+
+// Whether some byte is outside document 01's forms, or names a worker of P or more: one look-up for
+// each byte, and no branch.
+fn any_stray(bytes: &[u8], workers: usize) -> bool
+    requires { ⌜ 1 ≤ workers ⌝ }
     ensures { λ r. ⌜ r ≡ anyStray workers (now (bytes .entry)) ⌝ }
 {
+    let fits = bytes_that_fit(workers);
     let mut stray = false;
     let mut i = 0;
     while i < bytes.len() {
-        stray |= !byte_fits(bytes[i], workers);
+        stray |= !fits[wide(bytes[i])];
         i += 1;
     }
     stray
@@ -93,7 +122,7 @@ pub fn schedule_number(bytes: &[u8], workers: usize) -> usize
     if workers == 0 || numbers::MAX_WORKERS < workers {
         return numbers::BAD_WORKERS;
     }
-    if numbers::MAX_EVENTS < bytes.len() || any_stray(bytes, workers as u8) {
+    if numbers::MAX_EVENTS < bytes.len() || any_stray(bytes, workers) {
         return numbers::BAD_SCHEDULE;
     }
     numbers::SUCCESS

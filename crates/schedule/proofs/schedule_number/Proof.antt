@@ -14,9 +14,6 @@ returns c =
     (λ w. many-workers (a .bytes .now) (a .workers) (w .0 .left) (w .1 .taken))
     (c .if1 .came)
 
-cast-any-stray : tie.Need-cast-any-stray
-cast-any-stray c = search needs
-
 any-stray-requires : tie.Need-any-stray-requires
 any-stray-requires c κs = search needs
 
@@ -38,4 +35,4 @@ returns-3 c =
     (sym (c .before .any-stray .ensures) ∙ c .if4 .left)
 
 pub schedule-number-spec : {M : Type 1} → statement M
-schedule-number-spec = tie.close (tie.spec returns cast-any-stray any-stray-requires returns-2 returns-3)
+schedule-number-spec = tie.close (tie.spec returns any-stray-requires returns-2 returns-3)

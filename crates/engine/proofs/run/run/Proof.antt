@@ -22,29 +22,29 @@ use Rattle.engine.proofs.run.run.Statement.{statement}
 use Rattle.engine.proofs.run.run.Tie as tie
 
 abbrev Inv-loop : tie.InvT-loop
-Inv-loop source workers schedule offsets targets distances₀ parents₀ histogram₀ left₀ right₀ values₀ inputs₀ outputs₀ phases₀ pending₀ found₀ used₀ effective₀ layer₀
+Inv-loop source workers schedule offsets targets distances₀ parents₀ histogram₀ left₀ right₀ values₀ inputs₀ outputs₀ phases₀ pending₀ found₀ used₀ effective₀ layer₀ table
     distances parents histogram left right values inputs outputs phases pending found used effective layer =
     Going (givenBy source workers schedule offsets targets distances₀ left₀ right₀ values₀)
     distances parents histogram left right values inputs outputs phases pending found used effective layer
 
 abbrev μ-loop : tie.MeasureT-loop
-μ-loop source workers schedule offsets targets distances₀ parents₀ histogram₀ left₀ right₀ values₀ inputs₀ outputs₀ phases₀ pending₀ found₀ used₀ effective₀ layer₀
+μ-loop source workers schedule offsets targets distances₀ parents₀ histogram₀ left₀ right₀ values₀ inputs₀ outputs₀ phases₀ pending₀ found₀ used₀ effective₀ layer₀ table
     distances parents histogram left right values inputs outputs phases pending found used effective layer =
     length schedule - used
 
 -- Places that the needs look back to.
 
 -- the call of `open`, from the last one before the loop
-abbrev opening : tie.After-all-free Inv-loop μ-loop → tie.After-open Inv-loop μ-loop
-opening c = c .before .before .before .before .before .before .before .before .before .before .before .before .before .before .before .before
+abbrev opening : tie.After-byte-table Inv-loop μ-loop → tie.After-open Inv-loop μ-loop
+opening c = c .before .before .before .before .before .before .before .before .before .before .before .before .before .before .before .before .before
 
 -- the start, from there
 abbrev start : tie.After-open Inv-loop μ-loop → tie.Start Inv-loop μ-loop
 start c = c .before .before .before .before .before .before .before .before .before .before .before .before .before .before .before .before
 
--- the loop's head, from a decoded byte
-abbrev head : tie.After-decode Inv-loop μ-loop → tie.At-loop Inv-loop μ-loop
-head c = c .before .before .before
+-- the loop's head, from a byte that was looked up
+abbrev head : tie.After-look-up Inv-loop μ-loop → tie.At-loop Inv-loop μ-loop
+head c = c .before .before .before .before
 
 -- a worker's phase, from where its bag was seen to be empty or not, from a call and from what follows it
 abbrev phase-of-test : tie.After-is-empty Inv-loop μ-loop → tie.After-phase Inv-loop μ-loop
@@ -138,15 +138,15 @@ given c =
     (lists .1 .1 .1 .1 .0) (lists .1 .1 .1 .1 .1 .0)
 
 -- a turn whose byte says e
-abbrev Turn-at : tie.After-decode Inv-loop μ-loop → Event → Type 0
+abbrev Turn-at : tie.After-look-up Inv-loop μ-loop → Event → Type 0
 Turn-at c e =
     let now = head c .loop in
     Turn (given (head c)) (now .distances) (now .parents) (now .histogram) (now .left) (now .right) (now .values) (now .inputs) (now .outputs) (now .phases) (now .pending)
     (now .found) (now .used) (now .effective) (now .layer) e
 
--- by what was decoded
-turn : (c : tie.After-decode Inv-loop μ-loop) {e : Event} → c .decode .result ≡ e → Turn-at c e
-turn c said = turn-of (head c .loop .inv) (c .before .before .loop-test .taken) (c .decode .ensures) said
+-- by what was looked up
+turn : (c : tie.After-look-up Inv-loop μ-loop) {e : Event} → c .look-up .result ≡ e → Turn-at c e
+turn c said = turn-of (head c .loop .inv) (c .before .before .before .loop-test .taken) (c .look-up .ensures) said
 
 -- .. that it is work
 work-turn : (c : tie.After-event Inv-loop μ-loop) → Turn-at (c .before .before) (Work (c .event .given .0 .0))
@@ -207,20 +207,24 @@ first-of-eight-requires-2 c κs = search needs
 all-free-requires : tie.Need-all-free-requires Inv-loop μ-loop
 all-free-requires c κs = search needs
 
+byte-table-requires : tie.Need-byte-table-requires Inv-loop μ-loop
+byte-table-requires c κs = search needs
+
 loop-holds : tie.Need-loop-holds Inv-loop μ-loop
 loop-holds c =
     let entered = opening c in
-    start-on (start entered .pre) (opened-lengths entered) (entered .«open» .ensures) (c .before .before .before .first-of-eight .ensures)
-    (c .before .before .empty .ensures) (c .before .first-of-eight2 .ensures) (c .all-free .ensures)
+    let filled = c .before in
+    start-on (start entered .pre) (opened-lengths entered) (entered .«open» .ensures) (filled .before .before .before .first-of-eight .ensures)
+    (filled .before .before .empty .ensures) (filled .before .first-of-eight2 .ensures) (filled .all-free .ensures)
 
-shared-slice-read-decode : tie.Need-shared-slice-read-decode Inv-loop μ-loop
-shared-slice-read-decode c = search needs
+shared-slice-read-look-up : tie.Need-shared-slice-read-look-up Inv-loop μ-loop
+shared-slice-read-look-up c = search needs
 
-decode-requires : tie.Need-decode-requires Inv-loop μ-loop
-decode-requires c κs = search needs
+look-up-requires : tie.Need-look-up-requires Inv-loop μ-loop
+look-up-requires c κs = search needs
 
 add-used : tie.Need-add-used Inv-loop μ-loop
-add-used c = record { fits = used-fits (head c .loop .inv) (c .before .before .loop-test .taken) }
+add-used c = record { fits = used-fits (head c .loop .inv) (c .before .before .before .loop-test .taken) }
 
 enum-known-event : tie.Need-enum-known-event Inv-loop μ-loop
 enum-known-event c = search needs
@@ -575,9 +579,10 @@ run-spec =
     empty-requires
     first-of-eight-requires-2
     all-free-requires
+    byte-table-requires
     loop-holds
-    shared-slice-read-decode
-    decode-requires
+    shared-slice-read-look-up
+    look-up-requires
     add-used
     enum-known-event
     mul-phase
