@@ -47,7 +47,7 @@ pub each-split : {A : Type 0} (size : ℕ) (a b : List (List A)) → Each size (
 each-split size [] b h = (tt, h)
 each-split size (l ∷ a) b h = let both = each-split size a b (h .1) in ((h .0, both .0), both .1)
 
--- lists that are made so
+-- what a function makes, where it makes `size` places each time
 pub each-map : {A B : Type 0} (size : ℕ) (f : A → List B) → ((a : A) → length (f a) ≡ size) → (l : List A) → Each size (map f l)
 each-map size f h [] = tt
 each-map size f h (a ∷ l) = (h a, each-map size f h l)

@@ -1,7 +1,7 @@
 -- Lists with elements replaced, and functions at each element.
 use Prim.Native.Nat.{ℕ, zero, suc, _+_, _<_}
 use native.Mathlib.Omega.{arith}
-use mathlib.Core.Path.{_≡_, refl, sym, ap₂, _∙_}
+use mathlib.Core.Path.{_≡_, refl, sym, ap, ap₂, _∙_}
 use mathlib.Core.Bool.{Bool, true, false}
 use mathlib.Core.List.{List, [], _∷_, map}
 use lib.ListN.{length, getD, drop, set, replicate, length-set}
@@ -79,8 +79,5 @@ set-cases {R = R} l i j y d x h e here there = go (eqb j i) refl
 -- a list that has f at its first i places has it at one more where f i is put at place i
 pub set-next : {A : Type 0} (f : ℕ → A) (l : List A) (i : ℕ) (y d : A) → i < length l → y ≡ f i → ((k : ℕ) → k < i → getD l k d ≡ f k)
     → (k : ℕ) → k < i + 1 → getD (set l i y) k d ≡ f k
-set-next f l i y d h new old k below = go (eqb k i) refl
-  where
-    go : (b : Bool) → eqb k i ≡ b → getD (set l i y) k d ≡ f k
-    go true q = let same = eqb-true k i q in rw same (getD-set-same l i y d h ∙ new)
-    go false q = let other = eqb-false k i q in getD-set-other l i k y d other ∙ old k (omega (arith, other))
+set-next f l i y d h new old k below =
+    set-cases l i k y d (getD (set l i y) k d) h refl (λ same e. sym e ∙ new ∙ ap f (sym same)) (λ other e. sym e ∙ old k (omega (arith, other)))

@@ -1,4 +1,4 @@
-// Schedules of 300 events of all kinds, in which one byte is replaced at the first place, at a
+// Schedules of 300 events, all that P workers have, in which one byte is replaced at the first place, at a
 // middle one and at the last one, by every byte; and the empty schedule.
 use crate::composed::events_of;
 use crate::composed::number;

@@ -1,7 +1,7 @@
 -- The table of event bytes: its entry at every byte, and what an entry tells of its event.
 use mathlib.Core.Path.{_≡_, refl, ap, _∙_}
 use mathlib.Core.Bool.{true, false, cond, not, _&&_, and-true}
-use mathlib.Core.List.{List, [], _∷_, map}
+use mathlib.Core.List.{List, [], map}
 use Prim.Native.Nat.{ℕ, zero, suc, _+_, _*_, _≤_, _<_}
 use native.Mathlib.Omega.{arith}
 use lib.Dec.{eqb, ltb}
@@ -16,7 +16,7 @@ use Rattle.schedule.specs.Events.{formOf, eventOf, within}
 use Rattle.schedule.specs.Table.{entryOf, byteTable}
 
 -- an entry has three places
-pub entry-length : (e : Event) → length (entryOf e) ≡ 3
+entry-length : (e : Event) → length (entryOf e) ≡ 3
 unfolding entryOf
 entry-length (Work w) = refl
 entry-length (Split w v) = refl
@@ -34,12 +34,12 @@ table-at byte place h k =
     each-at 3 rows byte place 0 (each-map 3 row (λ (byte : ℕ). entry-length (eventOf byte)) bytes) (rw (length-map bytes row, length-range 0 256) h) k
     ∙ ap (λ (entry : List ℕ). getD entry place 0) (map-range-at row 256 byte [] h)
 
--- "135 of the 256 entries are malformed"
+-- 135 of the 256 entries are malformed (§5.6)
 pub malformed-entries : sumOf (λ (byte : ℕ). cond (eqb (getD (entryOf (eventOf byte)) 0 0) 4) 1 0) (numbersFrom 0 256) ≡ 135
 unfolding sumOf numbersFrom entryOf eventOf formOf
 malformed-entries = refl
 
--- "byte 72 is well-formed, and with P 1 it still gives 9": no entry knows how many workers there are
+-- byte 72 is taken with two workers, and stray with one
 pub byte-72 : (within 2 (eventOf 72) ≡ true) × (within 1 (eventOf 72) ≡ false)
 unfolding within eventOf formOf
 byte-72 = (refl, refl)
@@ -62,12 +62,12 @@ entry-event Close p q r = rw p
 entry-event Malformed p q r = rw p
 
 -- a kind past the four is malformed
-pub past-kinds : (kind w v : ℕ) → (kind ≡ 0 → ⊥) → (kind ≡ 1 → ⊥) → (kind ≡ 2 → ⊥) → (kind ≡ 3 → ⊥) → event-in kind w v ≡ Malformed
-past-kinds zero w v a b c d = absurd (a refl)
-past-kinds (suc zero) w v a b c d = absurd (b refl)
-past-kinds (suc (suc zero)) w v a b c d = absurd (c refl)
-past-kinds (suc (suc (suc zero))) w v a b c d = absurd (d refl)
-past-kinds (suc (suc (suc (suc kind)))) w v a b c d = refl
+pub past-kinds : (kind w v : ℕ) → 4 ≤ kind → event-in kind w v ≡ Malformed
+past-kinds zero w v h = absurd (omega arith)
+past-kinds (suc zero) w v h = absurd (omega arith)
+past-kinds (suc (suc zero)) w v h = absurd (omega arith)
+past-kinds (suc (suc (suc zero))) w v h = absurd (omega arith)
+past-kinds (suc (suc (suc (suc kind)))) w v h = refl
 
 -- the three tests of an entry tell whether its event is one of the four kinds and its workers are there
 pub entry-within : (P : ℕ) (e : Event) {kind w v : ℕ} → 1 ≤ P → kind ≡ getD (entryOf e) 0 0 → w ≡ getD (entryOf e) 1 0 → v ≡ getD (entryOf e) 2 0

@@ -1,10 +1,9 @@
 -- Which schedules are refused: numbers 8 and 9, in this order.
-use mathlib.Core.Path.{_≡_}
-use Prim.Native.Nat.{ℕ, _<_}
+use Prim.Native.Nat.{ℕ}
 use mathlib.Core.Bool.{Bool, false, not, _||_}
 use mathlib.Core.List.{List, [], _∷_}
 use lib.Dec.{ltb, eqb}
-use lib.ListN.{length, getD}
+use lib.ListN.{length}
 use Rattle.numbers.specs.Numbers.{maxWorkers, maxEvents, badWorkers, badSchedule}
 use Rattle.numbers.specs.Refusals.{Refusal, _gives_, first}
 use Rattle.schedule.specs.Events.{eventOf, within}
@@ -13,10 +12,6 @@ use Rattle.schedule.specs.Events.{eventOf, within}
 unfoldable pub anyStray : ℕ → List ℕ → Bool
 anyStray P [] = false
 anyStray P (byte ∷ bytes) = not (within P (eventOf byte)) || anyStray P bytes
-
--- a list that says of every byte whether its event is one of the four kinds, and its workers are below P (§5.3)
-abbrev pub Fits : ℕ → List Bool → Type 0
-Fits P list = (byte : ℕ) → byte < 256 → getD list byte false ≡ within P (eventOf byte)
 
 -- "8: P outside 1 to 8", "9: sheet over length, or a byte not of the forms above, or w or v of P or more" (§10.2)
 unfoldable pub scheduleRefusals : List ℕ → ℕ → List Refusal

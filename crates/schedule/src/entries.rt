@@ -1,4 +1,4 @@
-// The table of event bytes, which `decode` and the form check look bytes up in.
+// The table of event bytes, which `decode`, the engine and the form check go by.
 ghost use mathlib.Core.Path.{_≡_};
 ghost use Rattle.schedule.specs.Table.{byteTable};
 
@@ -41,8 +41,11 @@ const TABLE: [u8; 768] = *b"\
     \x04\x00\x00\x04\x00\x00\x04\x00\x00\x04\x00\x00\x04\x00\x00\x04\x00\x00\x04\x00\x00\x04\x00\x00\
 ";
 
-// The table. The compiler builds a constant where it is used, so the users of this one have it built
-// once, ahead of their loops, and lend it.
+// The kind of a malformed entry.
+pub const MALFORMED_KIND: usize = 4;
+
+// The table. The compiler builds a constant where it is used, so a function with a loop has this one
+// built once, ahead of the loop, and lends it.
 pub fn byte_table() -> [u8; 768]
     ensures { λ r. ⌜ r ≡ byteTable ⌝ }
 {

@@ -1,12 +1,13 @@
-// A schedule (document 01: event sheet) is a list of event bytes. `decode` says what event a byte is,
-// and the engine plays by it, byte after byte with `look_up`; `schedule_number` says whether a
-// schedule is taken. All of them look bytes up in one table, module `entries`.
+// A schedule (document 01: event sheet) is a list of event bytes. `decode` says what event a byte is;
+// `look_up` says it by a table that the caller lends, and the engine plays by that.
+// `schedule_number` says whether a schedule is taken. All go by one table, module `entries`.
 ghost use mathlib.Core.Path.{_≡_};
 ghost use Prim.Native.Nat.{_≤_, _<_};
 ghost use lib.ListN.{getD};
 ghost use Rattle.schedule.specs.Events.{eventOf, within};
-ghost use Rattle.schedule.specs.Table.{entryOf, byteTable};
-ghost use Rattle.schedule.specs.Check.{anyStray, Fits, scheduleNumber};
+ghost use Rattle.schedule.specs.Table.{entryOf, byteTable, Fits};
+ghost use Rattle.schedule.specs.Check.{anyStray, scheduleNumber};
+use entries::MALFORMED_KIND;
 
 mod entries;
 
@@ -40,7 +41,8 @@ fn entry(table: &[u8; 768], byte: usize, place: usize) -> usize
 }
 
 // The event of a byte, by the table that the caller lends: a run has it built once, ahead of its
-// events.
+// events. Tests, and no `match` on the kind, which is compiled to a jump through a list and is slower
+// where events are drawn.
 pub fn look_up(table: &[u8; 768], byte: u8) -> Event
     requires { ⌜ now table ≡ byteTable ⌝ }
     ensures { λ r. ⌜ r ≡ eventOf byte ⌝ }
@@ -49,12 +51,20 @@ pub fn look_up(table: &[u8; 768], byte: u8) -> Event
     let kind = entry(table, code, 0);
     let w = entry(table, code, 1);
     let v = entry(table, code, 2);
-    match kind {
-        0 => Event::Work { worker: w },
-        1 => Event::Split { taker: w, giver: v },
-        2 => Event::Unite { giver: w, taker: v },
-        3 => Event::Close,
-        _ => Event::Malformed,
+    if kind == 0 {
+        return Event::Work { worker: w };
+    }
+    if kind < 3 {
+        return if kind == 1 {
+            Event::Split { taker: w, giver: v }
+        } else {
+            Event::Unite { giver: w, taker: v }
+        };
+    }
+    if kind == 3 {
+        Event::Close
+    } else {
+        Event::Malformed
     }
 }
 
@@ -65,9 +75,6 @@ pub fn decode(byte: u8) -> Event
     let table = byte_table();
     look_up(&table, byte)
 }
-
-// The kind of a malformed entry.
-const MALFORMED_KIND: usize = 4;
 
 // Whether a byte's event is one of document 01's and all its workers are there. It makes every test
 // and branches on none.

@@ -2,7 +2,7 @@
 -- byte is. The measure is how many bytes are left.
 use borrow.Author.Needs.{needs}
 use mathlib.Core.Path.{_≡_, sym, ap, _∙_}
-use mathlib.Core.Bool.{Bool, false, not, _||_, or-assoc, or-false}
+use mathlib.Core.Bool.{false, not, _||_, or-assoc, or-false}
 use Prim.Native.Nat.{ℕ, _-_, _≤_}
 use lib.ListN.{length, getD, drop}
 use Rattle.schedule.specs.Events.{eventOf, within}

@@ -1,8 +1,8 @@
 -- `schedule::look_up` meets its contract: the entry of a byte says the byte's event, and each way out has the event of its kind.
 use borrow.Author.Needs.{needs}
 use mathlib.Core.Path.{_≡_, sym, ap, _∙_}
-use Prim.Native.Nat.{ℕ}
-use Rattle.schedule.specs.declared.Event.{Event}
+use Prim.Native.Nat.{ℕ, _≤_}
+use native.Mathlib.Omega.{arith}
 use Rattle.schedule.specs.Events.{eventOf}
 use Rattle.schedule.proofs.TableFacts.{event-in, entry-event, past-kinds}
 use Rattle.schedule.proofs.look_up.Statement.{statement}
@@ -42,21 +42,26 @@ module _ (c : tie.After-entry3) where
   says-of e = ap (λ (k : ℕ). event-in k w v) (sym e) ∙ says
 
 returns : tie.Need-returns
-returns c = says-of (c .before) (c .match .keys1)
+returns c = says-of (c .before) (c .if1 .taken)
 
 returns-2 : tie.Need-returns-2
-returns-2 c = says-of (c .before) (c .match .keys2)
+returns-2 c = says-of (c .before .before .before) (c .if3 .taken)
 
 returns-3 : tie.Need-returns-3
-returns-3 c = says-of (c .before) (c .match .keys3)
+returns-3 c =
+    let pair = c .before in
+    let entries = pair .before .before in
+    let two : kind entries ≡ 2 = omega (arith, pair .before .if1 .left, pair .if2 .taken, c .if3 .left) in
+    says-of entries two
 
 returns-4 : tie.Need-returns-4
-returns-4 c = says-of (c .before) (c .match .keys4)
+returns-4 c = says-of (c .before .before .before) (c .if4 .taken)
 
 returns-5 : tie.Need-returns-5
 returns-5 c =
-    let other = c .match .rest in
-    sym (past-kinds (kind (c .before)) (w (c .before)) (v (c .before)) (other .0 .0 .0 .1) (other .0 .0 .1) (other .0 .1) (other .1)) ∙ says (c .before)
+    let entries = c .before .before .before in
+    let past : 4 ≤ kind entries = omega (arith, c .before .if2 .left, c .if4 .left) in
+    sym (past-kinds (kind entries) (w entries) (v entries) past) ∙ says entries
 
 pub look-up-spec : {M : Type 1} → statement M
 look-up-spec =
