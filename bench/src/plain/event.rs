@@ -1,5 +1,5 @@
 //! Event bytes (docs/SPECIFICATION.md, §5): one table with what each byte says, and the form check by it.
-//! Nothing else takes a byte apart.
+//! The engine takes no byte apart.
 
 use super::numbers::{MOST_EVENTS, MOST_WORKERS};
 
@@ -18,7 +18,7 @@ pub enum Kind {
 
 /// What a byte says: w and v are 0 where its kind has none. It takes four bytes, since the place of
 /// such an entry is found quicker than that of three.
-#[derive(Clone, Copy, Debug, PartialEq, Eq)]
+#[derive(Clone, Copy)]
 #[repr(align(4))]
 pub struct Entry {
     pub kind: Kind,
