@@ -41,8 +41,7 @@ fn entry(table: &[u8; 768], byte: usize, place: usize) -> usize
 }
 
 // The event of a byte, by the table that the caller lends: a run has it built once, ahead of its
-// events. Tests, and no `match` on the kind, which is compiled to a jump through a list and is slower
-// where events are drawn.
+// events.
 pub fn look_up(table: &[u8; 768], byte: u8) -> Event
     requires { ⌜ now table ≡ byteTable ⌝ }
     ensures { λ r. ⌜ r ≡ eventOf byte ⌝ }
