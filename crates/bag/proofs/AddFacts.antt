@@ -8,7 +8,7 @@ use lib.Dec.{eqb}
 use borrow.Author.Tests.{eqb-true, not-true}
 use lib.ListN.{length, get_or, set}
 use Rattle.lists.specs.Lists.{sum_of, reaches}
-use Rattle.lists.proofs.Tests.{reaches-at}
+use Rattle.lists.proofs.Tests.{reaches_at}
 use Rattle.pennant.specs.Bag.{adder_sum, adder_carry}
 use Rattle.bag.specs.Nodes.{pennant_at}
 use Rattle.bag.specs.Table.{present, row_of, term, adder_table, entry_at}
@@ -22,47 +22,47 @@ abbrev pub column_of : ℕ → ℕ → ℕ → ℕ → ℕ
 column_of column x y z = term x y z (entry_at (row_of x y z) column)
 
 -- a node is there
-pub present-some : (x : ℕ) → (x ≡ 0 → ⊥) → 1 ≡ present x
+pub present_some : (x : ℕ) → (x ≡ 0 → ⊥) → 1 ≡ present x
 unfolding present
-present-some zero h = absurd (h refl)
-present-some (suc x) h = refl
+present_some zero h = absurd (h refl)
+present_some (suc x) h = refl
 
 -- the row as the code counts it
-pub row-whole : (x y z : ℕ) {a b c : ℕ} → a ≡ present x → b ≡ present y → c ≡ present z → a + 2 * b + 4 * c ≡ row_of x y z
+pub row_whole : (x y z : ℕ) {a b c : ℕ} → a ≡ present x → b ≡ present y → c ≡ present z → a + 2 * b + 4 * c ≡ row_of x y z
 unfolding row_of
-row-whole x y z p q r = rw (p, q, r)
+row_whole x y z p q r = rw (p, q, r)
 
 -- whether each row has three entries, each of them below four
 tabled : List (List ℕ) → Bool
 tabled [] = true
 tabled (row ∷ rows) = (eqb (length row) 3 && not (reaches 4 row)) && tabled rows
 
-tabled-row : (table : List (List ℕ)) (i : ℕ) → tabled table ≡ true → i < length table → (length (get_or table i []) ≡ 3) × (reaches 4 (get_or table i []) ≡ false)
+tabled_row : (table : List (List ℕ)) (i : ℕ) → tabled table ≡ true → i < length table → (length (get_or table i []) ≡ 3) × (reaches 4 (get_or table i []) ≡ false)
 unfolding tabled
-tabled-row [] i e h = absurd (omega arith)
-tabled-row (row ∷ rows) zero e h =
+tabled_row [] i e h = absurd (omega arith)
+tabled_row (row ∷ rows) zero e h =
     let here = (and-eq-true_iff (eqb (length row) 3) (not (reaches 4 row))).0 ((and-eq-true_iff (eqb (length row) 3 && not (reaches 4 row)) (tabled rows)).0 e).0 in
     (eqb-true (length row) 3 here.0, not-true (reaches 4 row) here.1)
-tabled-row (row ∷ rows) (suc i) e h = tabled-row rows i ((and-eq-true_iff (eqb (length row) 3 && not (reaches 4 row)) (tabled rows)).0 e).1 (omega arith)
+tabled_row (row ∷ rows) (suc i) e h = tabled_row rows i ((and-eq-true_iff (eqb (length row) 3 && not (reaches 4 row)) (tabled rows)).0 e).1 (omega arith)
 
 -- so an entry stands for one of four: computed once over the whole table
-pub entry-within : (row column : ℕ) → row < 8 → column < 3 → entry_at row column < 4
+pub entry_within : (row column : ℕ) → row < 8 → column < 3 → entry_at row column < 4
 unfolding tabled reaches
-entry-within row column h g =
-    let fits = tabled-row adder_table row refl h in
-    reaches-at 4 (get_or adder_table row []) column fits.1 (omega (arith, fits.0))
+entry_within row column h g =
+    let fits = tabled_row adder_table row refl h in
+    reaches_at 4 (get_or adder_table row []) column fits.1 (omega (arith, fits.0))
 
 -- which is below any bound that three are, if 0 is
-pub term-below : (x y z entry limit : ℕ) → entry < 4 → x < limit → y < limit → z < limit → term x y z entry < limit
-term-below x y z zero limit h a b c = omega arith
-term-below x y z (suc zero) limit h a b c = a
-term-below x y z (suc (suc zero)) limit h a b c = b
-term-below x y z (suc (suc (suc zero))) limit h a b c = c
-term-below x y z (suc (suc (suc (suc e)))) limit h a b c = absurd (omega arith)
+pub term_below : (x y z entry limit : ℕ) → entry < 4 → x < limit → y < limit → z < limit → term x y z entry < limit
+term_below x y z zero limit h a b c = omega arith
+term_below x y z (suc zero) limit h a b c = a
+term_below x y z (suc (suc zero)) limit h a b c = b
+term_below x y z (suc (suc (suc zero))) limit h a b c = c
+term_below x y z (suc (suc (suc (suc e)))) limit h a b c = absurd (omega arith)
 
 -- so an entry of a row is below what the three are
-pub entry-below : (x y z row column limit : ℕ) → row < 8 → column < 3 → x < limit → y < limit → z < limit → term x y z (entry_at row column) < limit
-entry-below x y z row column limit h g a b c = term-below x y z (entry_at row column) limit (entry-within row column h g) a b c
+pub entry_below : (x y z row column limit : ℕ) → row < 8 → column < 3 → x < limit → y < limit → z < limit → term x y z (entry_at row column) < limit
+entry_below x y z row column limit h g a b c = term_below x y z (entry_at row column) limit (entry_within row column h g) a b c
 
 -- a link where there is a root
 pub linked_some : (x y : ℕ) (left right : List ℕ) {left' right' : List ℕ} → (x ≡ 0 → ⊥) → left' ≡ set left x y → right' ≡ set right y (get_or left x 0)
@@ -96,8 +96,8 @@ module _ (left right : List ℕ) (k : ℕ) where
   -- where there is nothing to add, the slot and the lists stay and nothing is carried
   pub add_nothing : (x : ℕ) → Added left right k x 0 0 left right x 0
   unfolding pennant_at adder_sum adder_carry
-  add_nothing zero = record { sum = refl; carried = refl; kept-left = λ i c. refl; kept-right = λ i c. refl }
-  add_nothing (suc x) = record { sum = refl; carried = refl; kept-left = λ i c. refl; kept-right = λ i c. refl }
+  add_nothing zero = record { sum = refl; carried = refl; kept_left = λ i c. refl; kept_right = λ i c. refl }
+  add_nothing (suc x) = record { sum = refl; carried = refl; kept_left = λ i c. refl; kept_right = λ i c. refl }
 
   -- each row of the table is 000's
   pub add_rows : (x y z : ℕ) → Pennants left right k (x ∷ y ∷ z ∷ [])
@@ -105,33 +105,33 @@ module _ (left right : List ℕ) (k : ℕ) where
   unfolding present row_of linked_left linked_right pennant_at adder_sum adder_carry sum_of
   add_rows zero zero zero p = add_nothing zero
   add_rows (suc x) zero zero p = add_nothing (suc x)
-  add_rows zero (suc y) zero p = record { sum = refl; carried = refl; kept-left = λ i c. refl; kept-right = λ i c. refl }
-  add_rows zero zero (suc z) p = record { sum = refl; carried = refl; kept-left = λ i c. refl; kept-right = λ i c. refl }
+  add_rows zero (suc y) zero p = record { sum = refl; carried = refl; kept_left = λ i c. refl; kept_right = λ i c. refl }
+  add_rows zero zero (suc z) p = record { sum = refl; carried = refl; kept_left = λ i c. refl; kept_right = λ i c. refl }
   add_rows (suc x) (suc y) zero p = record {
     sum = refl;
     carried = link_pennant left right k (suc x) (suc y) (some x) (some y) (pair_xy (suc x) (suc y) zero p);
-    kept-left = λ i c. (link_kept left right k (suc x) (suc y) i (some x) (some y) (omega arith)).0;
-    kept-right = λ i c. (link_kept left right k (suc x) (suc y) i (some x) (some y) (omega arith)).1;
+    kept_left = λ i c. (link_kept left right k (suc x) (suc y) i (some x) (some y) (omega arith)).0;
+    kept_right = λ i c. (link_kept left right k (suc x) (suc y) i (some x) (some y) (omega arith)).1;
   }
   add_rows (suc x) zero (suc z) p = record {
     sum = refl;
     carried = link_pennant left right k (suc x) (suc z) (some x) (some z) (pair_xz (suc x) zero (suc z) p);
-    kept-left = λ i c. (link_kept left right k (suc x) (suc z) i (some x) (some z) (omega arith)).0;
-    kept-right = λ i c. (link_kept left right k (suc x) (suc z) i (some x) (some z) (omega arith)).1;
+    kept_left = λ i c. (link_kept left right k (suc x) (suc z) i (some x) (some z) (omega arith)).0;
+    kept_right = λ i c. (link_kept left right k (suc x) (suc z) i (some x) (some z) (omega arith)).1;
   }
   add_rows zero (suc y) (suc z) p = record {
     sum = refl;
     carried = link_pennant left right k (suc y) (suc z) (some y) (some z) (pair_yz zero (suc y) (suc z) p);
-    kept-left = λ i c. (link_kept left right k (suc y) (suc z) i (some y) (some z) (omega arith)).0;
-    kept-right = λ i c. (link_kept left right k (suc y) (suc z) i (some y) (some z) (omega arith)).1;
+    kept_left = λ i c. (link_kept left right k (suc y) (suc z) i (some y) (some z) (omega arith)).0;
+    kept_right = λ i c. (link_kept left right k (suc y) (suc z) i (some y) (some z) (omega arith)).1;
   }
   add_rows (suc x) (suc y) (suc z) p = record {
     sum =
         pennant_kept left right (set left (suc y) (suc z)) (set right (suc z) (get_or left (suc y) 0)) k (suc x)
         (λ i c. link_kept left right k (suc y) (suc z) i (some y) (some z) (omega (arith, c, p.apart i, in_pool_once (length left) i)));
     carried = link_pennant left right k (suc y) (suc z) (some y) (some z) (pair_yz (suc x) (suc y) (suc z) p);
-    kept-left = λ i c. (link_kept left right k (suc y) (suc z) i (some y) (some z) (omega arith)).0;
-    kept-right = λ i c. (link_kept left right k (suc y) (suc z) i (some y) (some z) (omega arith)).1;
+    kept_left = λ i c. (link_kept left right k (suc y) (suc z) i (some y) (some z) (omega arith)).0;
+    kept_right = λ i c. (link_kept left right k (suc y) (suc z) i (some y) (some z) (omega arith)).1;
   }
 
   -- the lists and the two slots as the code leaves them

@@ -6,12 +6,12 @@ use mathlib.Core.Bool.{true, false, true≢false}
 use mathlib.Core.List.{List, [], ◌∷◌, ◌++◌}
 use lib.ListN.{length, get_or, take, drop, set}
 use Rattle.lists.specs.Lists.{sum_of}
-use Rattle.lists.proofs.Sums.{sum-set}
+use Rattle.lists.proofs.Sums.{sum_set}
 use Rattle.pennant.specs.Pennant.{Slot, gap, tip, pennant_union}
 use Rattle.pennant.specs.Bag.{Bag, is_gap, insert_pennant, insert_filled, adder_sum, adder_carry, add_from}
 use Rattle.pennant.specs.Held.{weigh, weigh_slot}
 use Rattle.bag.specs.Nodes.{pennant_at, slot_nodes}
-use Rattle.bag.proofs.Kept.{length-nodes, nodes-at, nodes-set}
+use Rattle.bag.proofs.Kept.{length_nodes, nodes_at, nodes_set}
 
 -- an insertion goes on past a filled slot
 pub insert_pass : (k : ℕ) (x : Slot) (s : Bag) → k < length s → is_gap (get_or s k gap) ≡ false
@@ -52,32 +52,32 @@ add_end (suc k) (x ∷ s) (y ∷ t) h g = ap (λ (l : Bag). x ∷ l) (add_end k 
 
 -- weights of a backbone: the slots before k and those from k on, one slot replaced, slot k and those after it
 module _ (f : ℕ → ℕ) where
-  pub weigh-parts : (k : ℕ) (s : Bag) → weigh f (take k s) + weigh f (drop k s) ≡ weigh f s
+  pub weigh_parts : (k : ℕ) (s : Bag) → weigh f (take k s) + weigh f (drop k s) ≡ weigh f s
   unfolding weigh sum_of
-  weigh-parts zero s = omega arith
-  weigh-parts (suc k) [] = omega arith
-  weigh-parts (suc k) (x ∷ s) = omega (arith, weigh-parts k s)
+  weigh_parts zero s = omega arith
+  weigh_parts (suc k) [] = omega arith
+  weigh_parts (suc k) (x ∷ s) = omega (arith, weigh_parts k s)
 
-  pub weigh-set : (k : ℕ) (s : Bag) (y : Slot) → k < length s → weigh f (set s k y) + weigh_slot f (get_or s k gap) ≡ weigh f s + weigh_slot f y
+  pub weigh_set : (k : ℕ) (s : Bag) (y : Slot) → k < length s → weigh f (set s k y) + weigh_slot f (get_or s k gap) ≡ weigh f s + weigh_slot f y
   unfolding weigh
-  weigh-set k s y h = sum-set (weigh_slot f) s k y gap h
+  weigh_set k s y h = sum_set (weigh_slot f) s k y gap h
 
-  pub weigh-next : (k : ℕ) (s : Bag) → k < length s → weigh f (drop k s) ≡ weigh_slot f (get_or s k gap) + weigh f (drop (suc k) s)
+  pub weigh_next : (k : ℕ) (s : Bag) → k < length s → weigh f (drop k s) ≡ weigh_slot f (get_or s k gap) + weigh f (drop (suc k) s)
   unfolding weigh sum_of
-  weigh-next k [] h = absurd (omega arith)
-  weigh-next zero (x ∷ s) h = refl
-  weigh-next (suc k) (x ∷ s) h = weigh-next k s (omega arith)
+  weigh_next k [] h = absurd (omega arith)
+  weigh_next zero (x ∷ s) h = refl
+  weigh_next (suc k) (x ∷ s) h = weigh_next k s (omega arith)
 
 -- The same of a bag of nodes.
 module _ (left right slots : List ℕ) (k : ℕ) (h : k < length slots) (f : ℕ → ℕ) where
   within : k < length (slot_nodes left right slots)
-  within = rw (length-nodes left right slots) h
+  within = rw (length_nodes left right slots) h
 
   -- slot k emptied, and what it held
   pub slot_weighs : weigh f (slot_nodes left right (set slots k 0)) + weigh_slot f (pennant_at left right k (get_or slots k 0)) ≡ weigh f (slot_nodes left right slots)
   unfolding pennant_at weigh_slot
-  slot_weighs = rw (nodes-set left right slots k 0, ← (nodes-at left right slots k)) (weigh-set f k (slot_nodes left right slots) gap within ∙ omega arith)
+  slot_weighs = rw (nodes_set left right slots k 0, ← (nodes_at left right slots k)) (weigh_set f k (slot_nodes left right slots) gap within ∙ omega arith)
 
   -- slot k and those after it
   pub next_weighs : weigh f (drop k (slot_nodes left right slots)) ≡ weigh_slot f (pennant_at left right k (get_or slots k 0)) + weigh f (drop (suc k) (slot_nodes left right slots))
-  next_weighs = rw (nodes-at left right slots k) at (weigh-next f k (slot_nodes left right slots) within)
+  next_weighs = rw (nodes_at left right slots k) at (weigh_next f k (slot_nodes left right slots) within)

@@ -7,7 +7,7 @@ use mathlib.Core.List.{List, [], ◌∷◌}
 use lib.ListN.{length}
 use Rattle.lists.specs.Lists.{sum_of, elem, repeats}
 use Rattle.lists.proofs.Or.{not_so}
-use Rattle.lists.proofs.Tests.{elem_cases, repeats_cons, distinct-short}
+use Rattle.lists.proofs.Tests.{elem_cases, repeats_cons, distinct_short}
 use Rattle.pennant.specs.Pennant.{Slot}
 use Rattle.pennant.specs.Bag.{is_gap, slot_count}
 use Rattle.pennant.specs.Held.{one, only, slot_items, weigh_slot, Pennant}
@@ -16,11 +16,11 @@ use Rattle.bag.specs.Promises.{in_pool}
 use Rattle.bag.proofs.Only.{in_pool_once, in_pool_within}
 
 -- a number of the list counts there
-elem-counts : (x : ℕ) (l : List ℕ) → elem x l ≡ true → 1 ≤ sum_of (only x) l
+elem_counts : (x : ℕ) (l : List ℕ) → elem x l ≡ true → 1 ≤ sum_of (only x) l
 unfolding sum_of elem
-elem-counts x [] e = absurd (omega (arith, ap {B = ℕ} (λ (b : Bool). elim b [ true ↦ 1 | false ↦ 0 ]) e))
-elem-counts x (y ∷ l) e =
-    elem_cases x y l e (λ (q : x ≡ y). omega (arith, only_self x, ap (λ (n : ℕ). only x n) q)) (λ (q : elem x l ≡ true). omega (arith, elem-counts x l q))
+elem_counts x [] e = absurd (omega (arith, ap {B = ℕ} (λ (b : Bool). elim b [ true ↦ 1 | false ↦ 0 ]) e))
+elem_counts x (y ∷ l) e =
+    elem_cases x y l e (λ (q : x ≡ y). omega (arith, only_self x, ap (λ (n : ℕ). only x n) q)) (λ (q : elem x l ≡ true). omega (arith, elem_counts x l q))
 
 -- a list in which each number counts at most once has no repeat
 single_distinct : (l : List ℕ) → ((x : ℕ) → sum_of (only x) l ≤ 1) → repeats l ≡ false
@@ -28,7 +28,7 @@ unfolding sum_of repeats
 single_distinct [] h = refl
 single_distinct (y ∷ l) h =
     repeats_cons y l
-    (not_so (elem y l) (λ (e : elem y l ≡ true). omega (arith, h y, only_self y, elem-counts y l e)))
+    (not_so (elem y l) (λ (e : elem y l ≡ true). omega (arith, h y, only_self y, elem_counts y l e)))
     (single_distinct l (λ x. omega (arith, h x)))
 
 -- the weight 1 counts the places
@@ -39,16 +39,16 @@ sum_one (x ∷ l) = omega (arith, sum_one l)
 
 module _ (places : ℕ) where
   -- a list of nodes, each used at most once
-  pub few-nodes : (l : List ℕ) → ((x : ℕ) → sum_of (only x) l ≤ in_pool places x) → length l ≤ places - 1
-  few-nodes l h =
-      distinct-short (places - 1) l
+  pub few_nodes : (l : List ℕ) → ((x : ℕ) → sum_of (only x) l ≤ in_pool places x) → length l ≤ places - 1
+  few_nodes l h =
+      distinct_short (places - 1) l
       (single_distinct l (λ x. omega (arith, h x, in_pool_once places x)))
-      (λ x e. let w = in_pool_within places x (omega (arith, h x, elem-counts x l e)) in omega arith)
+      (λ x e. let w = in_pool_within places x (omega (arith, h x, elem_counts x l e)) in omega arith)
 
   -- a pennant of nodes
   pub few_pennant : (x : Slot) → ((i : ℕ) → weigh_slot (only i) x ≤ in_pool places i) → weigh_slot one x ≤ places - 1
   few_pennant x h =
-      rw (weigh_slot_items one x, sum_one (slot_items x)) (few-nodes (slot_items x) (λ i. rw (weigh_slot_items (only i) x) at (h i)))
+      rw (weigh_slot_items one x, sum_one (slot_items x)) (few_nodes (slot_items x) (λ i. rw (weigh_slot_items (only i) x) at (h i)))
 
 -- a pennant of nodes of a pool stands in one of 16 slots
 pub rank_below : (places k : ℕ) (x : Slot) → Pennant k x → is_gap x ≡ false → ((i : ℕ) → weigh_slot (only i) x ≤ in_pool places i) → places ≤ 65536 → k < 16

@@ -13,15 +13,15 @@ use Rattle.pennant.specs.Pennant.{Slot, gap, tip}
 use Rattle.pennant.specs.Bag.{Bag, is_empty, at_least_two, spread, take_from, taken_number}
 use Rattle.bag.specs.Nodes.{tree_at, pennant_at, slot_nodes}
 use Rattle.bag.specs.Steps.{first_filled}
-use Rattle.bag.proofs.Kept.{length-nodes, nodes-at}
+use Rattle.bag.proofs.Kept.{length_nodes, nodes_at}
 use Rattle.bag.proofs.Pairs.{pennant_some}
-use Rattle.bag.proofs.PlaceFacts.{none-gap}
+use Rattle.bag.proofs.PlaceFacts.{none_gap}
 
 -- a number that is not 0 is found
-filled-first : (k x : ℕ) (xs : List ℕ) → (x ≡ 0 → ⊥) → first_filled k (x ∷ xs) ≡ k
+filled_first : (k x : ℕ) (xs : List ℕ) → (x ≡ 0 → ⊥) → first_filled k (x ∷ xs) ≡ k
 unfolding first_filled
-filled-first k zero xs h = absurd (h refl)
-filled-first k (suc x) xs h = refl
+filled_first k zero xs h = absurd (h refl)
+filled_first k (suc x) xs h = refl
 
 -- a 0 is passed
 empty_first : (k x : ℕ) (xs : List ℕ) → x ≡ 0 → first_filled k (x ∷ xs) ≡ first_filled (suc k) xs
@@ -31,22 +31,22 @@ empty_first k (suc x) xs e = absurd (omega arith)
 
 module _ (slots : List ℕ) (k : ℕ) where
   -- slot k is found where it is filled
-  pub filled-here : k < length slots → (get_or slots k 0 ≡ 0 → ⊥) → first_filled k (drop k slots) ≡ k
-  filled-here h f = rw (drop-cons slots k 0 h) (filled-first k (get_or slots k 0) (drop (suc k) slots) f)
+  pub filled_here : k < length slots → (get_or slots k 0 ≡ 0 → ⊥) → first_filled k (drop k slots) ≡ k
+  filled_here h f = rw (drop-cons slots k 0 h) (filled_first k (get_or slots k 0) (drop (suc k) slots) f)
 
   -- slot k is passed where it is empty
   filled_next : k < length slots → get_or slots k 0 ≡ 0 → first_filled k (drop k slots) ≡ first_filled (suc k) (drop (suc k) slots)
   filled_next h e = rw (drop-cons slots k 0 h) (empty_first k (get_or slots k 0) (drop (suc k) slots) e)
 
-  pub filled-pass : k < length slots → get_or slots k 0 ≡ 0 → first_filled k (drop k slots) ≡ first_filled (k + 1) (drop (k + 1) slots)
-  filled-pass h e = rw (add-one k) (filled_next h e)
+  pub filled_pass : k < length slots → get_or slots k 0 ≡ 0 → first_filled k (drop k slots) ≡ first_filled (k + 1) (drop (k + 1) slots)
+  filled_pass h e = rw (add-one k) (filled_next h e)
 
 -- nothing is found before the search starts
-pub filled-from : (k : ℕ) (xs : List ℕ) → k ≤ first_filled k xs
+pub filled_from : (k : ℕ) (xs : List ℕ) → k ≤ first_filled k xs
 unfolding first_filled
-filled-from k [] = omega arith
-filled-from k (zero ∷ xs) = omega (arith, filled-from (suc k) xs)
-filled-from k (suc x ∷ xs) = omega arith
+filled_from k [] = omega arith
+filled_from k (zero ∷ xs) = omega (arith, filled_from (suc k) xs)
+filled_from k (suc x ∷ xs) = omega arith
 
 -- two or more are held where something is held past slot 0
 pub two_past : (s : Bag) → not (is_empty (drop 1 s)) ≡ at_least_two s
@@ -56,21 +56,21 @@ two_past (x ∷ s) = refl
 
 module _ (left right slots : List ℕ) (k : ℕ) where
   -- past the last slot the bag is empty
-  nodes-end : length slots ≤ k → is_empty (drop k (slot_nodes left right slots)) ≡ true
+  nodes_end : length slots ≤ k → is_empty (drop k (slot_nodes left right slots)) ≡ true
   unfolding is_empty
-  nodes-end h = ap is_empty (drop_of_length-le (slot_nodes left right slots) {i = k} (rw (length-nodes left right slots) h))
+  nodes_end h = ap is_empty (drop_of_length-le (slot_nodes left right slots) {i = k} (rw (length_nodes left right slots) h))
 
   -- so no more is to be looked at
   pub none_end : (none : Bool) → length slots ≤ k → none && is_empty (drop k (slot_nodes left right slots)) ≡ none
-  none_end none h = rw (nodes-end h) (and-true none)
+  none_end none h = rw (nodes_end h) (and-true none)
 
   module _ (h : k < length slots) where
     slot_next : drop k (slot_nodes left right slots) ≡ pennant_at left right k (get_or slots k 0) ∷ drop (suc k) (slot_nodes left right slots)
-    slot_next = drop-cons (slot_nodes left right slots) k gap (rw (length-nodes left right slots) h) ∙ ap (λ (x : Slot). x ∷ drop (suc k) (slot_nodes left right slots)) (nodes-at left right slots k)
+    slot_next = drop-cons (slot_nodes left right slots) k gap (rw (length_nodes left right slots) h) ∙ ap (λ (x : Slot). x ∷ drop (suc k) (slot_nodes left right slots)) (nodes_at left right slots k)
 
     -- an empty slot before the others
     slot_empty : get_or slots k 0 ≡ 0 → drop k (slot_nodes left right slots) ≡ gap ∷ drop (suc k) (slot_nodes left right slots)
-    slot_empty e = slot_next ∙ ap (λ (x : Slot). x ∷ drop (suc k) (slot_nodes left right slots)) (none-gap left right k (get_or slots k 0) e)
+    slot_empty e = slot_next ∙ ap (λ (x : Slot). x ∷ drop (suc k) (slot_nodes left right slots)) (none_gap left right k (get_or slots k 0) e)
 
     -- a filled one
     slot_filled : (get_or slots k 0 ≡ 0 → ⊥)
@@ -97,7 +97,7 @@ module _ (left right : List ℕ) where
 
   lowest_from : (slots : List ℕ) (n k : ℕ) → k + n ≡ length slots → is_empty (drop k (slot_nodes left right slots)) ≡ false → Lowest slots k (first_filled k (drop k slots))
   unfolding is_empty take_from taken_number
-  lowest_from slots zero k e f = absurd (true≢false (sym (nodes-end left right slots k (omega arith)) ∙ f))
+  lowest_from slots zero k e f = absurd (true≢false (sym (nodes_end left right slots k (omega arith)) ∙ f))
   lowest_from slots (suc n) k e f = go (lowest_from slots n (suc k) (omega arith)) (get_or slots k 0) refl
     where
       within : k < length slots
@@ -117,7 +117,7 @@ module _ (left right : List ℕ) where
       go lower (suc x) q =
           let some : get_or slots k 0 ≡ 0 → ⊥ = λ (z : get_or slots k 0 ≡ 0). omega arith in
           let full = slot_filled left right slots k within some in
-          rw (filled-here slots k within some) (record {
+          rw (filled_here slots k within some) (record {
             within = within;
             some = some;
             rest = ap (take_from k) full ∙ ap (λ (x : Slot). spread k x (gap ∷ drop (suc k) (slot_nodes left right slots))) (sym (pennant_some left right k (get_or slots k 0) some));
@@ -141,14 +141,14 @@ module _ (slots : List ℕ) where
   pub record Seeking (two : Bool) (first second : ℕ) : Type 0 where
     pub found : two ≡ true → (left right : List ℕ) → is_empty (drop 1 (slot_nodes left right slots)) ≡ false
     pub passed_first : two ≡ false → (j : ℕ) → j < first → get_or slots (j + 1) 0 ≡ 0
-    pub passed-second : two ≡ false → (j : ℕ) → j < second → get_or slots (j + 8) 0 ≡ 0
+    pub passed_second : two ≡ false → (j : ℕ) → j < second → get_or slots (j + 8) 0 ≡ 0
 
   -- something is held from slot k on where a slot there is filled
-  some-from : (left right : List ℕ) (n k j : ℕ) → k + n ≡ j → j < length slots → (get_or slots j 0 ≡ 0 → ⊥)
+  some_from : (left right : List ℕ) (n k j : ℕ) → k + n ≡ j → j < length slots → (get_or slots j 0 ≡ 0 → ⊥)
       → is_empty (drop k (slot_nodes left right slots)) ≡ false
-  some-from left right zero k j e within filled =
+  some_from left right zero k j e within filled =
       none_filled left right slots k (omega arith) true (λ z. filled (ap (λ (i : ℕ). get_or slots i 0) (omega arith) ∙ z))
-  some-from left right (suc n) k j e within filled = go (some-from left right n (k + 1) j (omega arith) within filled) (get_or slots k 0) refl
+  some_from left right (suc n) k j e within filled = go (some_from left right n (k + 1) j (omega arith) within filled) (get_or slots k 0) refl
     where
       go : is_empty (drop (k + 1) (slot_nodes left right slots)) ≡ false → (x : ℕ) → get_or slots k 0 ≡ x → is_empty (drop k (slot_nodes left right slots)) ≡ false
       go later zero q = none_pass left right slots k (omega arith) true q ∙ later
@@ -157,21 +157,21 @@ module _ (slots : List ℕ) where
   -- nothing is where all of them are empty
   none_from : (left right : List ℕ) (n k : ℕ) → k + n ≡ length slots → ((j : ℕ) → k ≤ j → j < length slots → get_or slots j 0 ≡ 0)
       → is_empty (drop k (slot_nodes left right slots)) ≡ true
-  none_from left right zero k e empty = nodes-end left right slots k (omega arith)
+  none_from left right zero k e empty = nodes_end left right slots k (omega arith)
   none_from left right (suc n) k e empty =
       none_pass left right slots k (omega arith) true (empty k (omega arith) (omega arith))
       ∙ none_from left right n (k + 1) (omega arith) (λ j a b. empty j (omega arith) b)
 
   -- before the first
   pub seeking_start : Seeking false 0 0
-  seeking_start = record { found = λ e. absurd (true≢false (sym e)); passed_first = λ e j h. absurd (omega arith); passed-second = λ e j h. absurd (omega arith) }
+  seeking_start = record { found = λ e. absurd (true≢false (sym e)); passed_first = λ e j h. absurd (omega arith); passed_second = λ e j h. absurd (omega arith) }
 
   -- a filled slot past slot 0
   pub seeking_found : {first second : ℕ} (j : ℕ) → 1 ≤ j → j < length slots → (get_or slots j 0 ≡ 0 → ⊥) → Seeking true first second
   seeking_found j past within filled = record {
-    found = λ e left right. some-from left right (j - 1) 1 j (omega arith) within filled;
+    found = λ e left right. some_from left right (j - 1) 1 j (omega arith) within filled;
     passed_first = λ e. absurd (true≢false e);
-    passed-second = λ e. absurd (true≢false e);
+    passed_second = λ e. absurd (true≢false e);
   }
 
   module _ {two : Bool} {first second : ℕ} (so_far : Seeking two first second) where
@@ -180,7 +180,7 @@ module _ (slots : List ℕ) where
     seeking_first empty = record {
       found = so_far.found;
       passed_first = λ e j h. ⊎_elim (λ last. ap (λ (i : ℕ). get_or slots (i + 1) 0) (omega arith) ∙ empty) (λ below. so_far.passed_first e j below) (side first j);
-      passed-second = so_far.passed-second;
+      passed_second = so_far.passed_second;
     }
 
     -- of the second
@@ -188,7 +188,7 @@ module _ (slots : List ℕ) where
     seeking_second empty = record {
       found = so_far.found;
       passed_first = so_far.passed_first;
-      passed-second = λ e j h. ⊎_elim (λ last. ap (λ (i : ℕ). get_or slots (i + 8) 0) (omega arith) ∙ empty) (λ below. so_far.passed-second e j below) (side second j);
+      passed_second = λ e j h. ⊎_elim (λ last. ap (λ (i : ℕ). get_or slots (i + 8) 0) (omega arith) ∙ empty) (λ below. so_far.passed_second e j below) (side second j);
     }
 
   -- at the end of both rows all slots past slot 0 are looked at
@@ -202,4 +202,4 @@ module _ (slots : List ℕ) where
       low j past below = ap (λ (i : ℕ). get_or slots i 0) (omega arith) ∙ so_far.passed_first refl (j - 1) (omega arith)
 
       high : (j : ℕ) → j < length slots → 8 < j → get_or slots j 0 ≡ 0
-      high j within past = ap (λ (i : ℕ). get_or slots i 0) (omega arith) ∙ so_far.passed-second refl (j - 8) (omega (arith, long))
+      high j within past = ap (λ (i : ℕ). get_or slots i 0) (omega arith) ∙ so_far.passed_second refl (j - 8) (omega (arith, long))

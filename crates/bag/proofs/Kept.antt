@@ -17,16 +17,16 @@ module _ (left right left' right' : List ℕ) where
   Same i = (get_or left' i 0 ≡ get_or left i 0) × (get_or right' i 0 ≡ get_or right i 0)
 
   -- a tree whose nodes are as they were
-  pub tree-kept : (k x : ℕ) → ((i : ℕ) → 1 ≤ weigh_tree (only i) (tree_at left right k x) → Same i) → tree_at left' right' k x ≡ tree_at left right k x
+  pub tree_kept : (k x : ℕ) → ((i : ℕ) → 1 ≤ weigh_tree (only i) (tree_at left right k x) → Same i) → tree_at left' right' k x ≡ tree_at left right k x
   unfolding tree_at weigh_tree
-  tree-kept zero x same = refl
-  tree-kept (suc k) x same =
+  tree_kept zero x same = refl
+  tree_kept (suc k) x same =
       let here = same x (omega (arith, only_self x)) in
       rw (
         here.0,
         here.1,
-        tree-kept k (get_or left x 0) (λ i h. same i (omega arith)),
-        tree-kept k (get_or right x 0) (λ i h. same i (omega arith)),
+        tree_kept k (get_or left x 0) (λ i h. same i (omega arith)),
+        tree_kept k (get_or right x 0) (λ i h. same i (omega arith)),
       )
 
   -- a pennant whose nodes are as they were
@@ -34,7 +34,7 @@ module _ (left right left' right' : List ℕ) where
   unfolding pennant_at weigh_slot
   pennant_kept k zero same = refl
   pennant_kept k (suc x) same =
-      rw ((same (suc x) (omega (arith, only_self (suc x)))).0, tree-kept k (get_or left (suc x) 0) (λ i h. same i (omega arith)))
+      rw ((same (suc x) (omega (arith, only_self (suc x)))).0, tree_kept k (get_or left (suc x) 0) (λ i h. same i (omega arith)))
 
   -- slots from slot k on whose nodes are as they were
   pub slots_kept : (k : ℕ) (xs : List ℕ) → ((i : ℕ) → 1 ≤ weigh (only i) (slots_from left right k xs) → Same i) → slots_from left' right' k xs ≡ slots_from left right k xs
@@ -43,9 +43,9 @@ module _ (left right left' right' : List ℕ) where
   slots_kept k (x ∷ xs) same = rw (pennant_kept k x (λ i h. same i (omega arith)), slots_kept (suc k) xs (λ i h. same i (omega arith)))
 
   -- a bag whose nodes are as they were
-  pub nodes-kept : (slots : List ℕ) → ((i : ℕ) → 1 ≤ copies i (slot_nodes left right slots) → Same i) → slot_nodes left' right' slots ≡ slot_nodes left right slots
+  pub nodes_kept : (slots : List ℕ) → ((i : ℕ) → 1 ≤ copies i (slot_nodes left right slots) → Same i) → slot_nodes left' right' slots ≡ slot_nodes left right slots
   unfolding slot_nodes
-  nodes-kept slots same = slots_kept 0 slots same
+  nodes_kept slots same = slots_kept 0 slots same
 
 module _ (left right : List ℕ) where
   -- as many slots as nodes are given
@@ -102,46 +102,46 @@ module _ (left right : List ℕ) where
 
   module _ (slots : List ℕ) where
     -- a bag of nodes has the shape of a bag
-    pub nodes-shaped : Shaped (slot_nodes left right slots)
+    pub nodes_shaped : Shaped (slot_nodes left right slots)
     unfolding slot_nodes
-    nodes-shaped = slots_shaped 0 slots
+    nodes_shaped = slots_shaped 0 slots
 
     -- as many slots as nodes are given
-    pub length-nodes : length (slot_nodes left right slots) ≡ length slots
+    pub length_nodes : length (slot_nodes left right slots) ≡ length slots
     unfolding slot_nodes
-    length-nodes = length_slots 0 slots
+    length_nodes = length_slots 0 slots
 
     -- slot k of a bag of nodes
-    pub nodes-at : (k : ℕ) → get_or (slot_nodes left right slots) k gap ≡ pennant_at left right k (get_or slots k 0)
+    pub nodes_at : (k : ℕ) → get_or (slot_nodes left right slots) k gap ≡ pennant_at left right k (get_or slots k 0)
     unfolding slot_nodes
-    nodes-at k = slots_at 0 slots k ∙ ap (λ (n : ℕ). pennant_at left right n (get_or slots k 0)) (zero-add k)
+    nodes_at k = slots_at 0 slots k ∙ ap (λ (n : ℕ). pennant_at left right n (get_or slots k 0)) (zero-add k)
 
     -- a slot replaced
-    pub nodes-set : (k y : ℕ) → slot_nodes left right (set slots k y) ≡ set (slot_nodes left right slots) k (pennant_at left right k y)
+    pub nodes_set : (k y : ℕ) → slot_nodes left right (set slots k y) ≡ set (slot_nodes left right slots) k (pennant_at left right k y)
     unfolding slot_nodes
-    nodes-set k y = slots_set 0 slots k y ∙ ap (λ (n : ℕ). set (slots_from left right 0 slots) k (pennant_at left right n y)) (zero-add k)
+    nodes_set k y = slots_set 0 slots k y ∙ ap (λ (n : ℕ). set (slots_from left right 0 slots) k (pennant_at left right n y)) (zero-add k)
 
     -- the slots from k on
-    pub nodes-drop : (k : ℕ) → drop k (slot_nodes left right slots) ≡ slots_from left right k (drop k slots)
+    pub nodes_drop : (k : ℕ) → drop k (slot_nodes left right slots) ≡ slots_from left right k (drop k slots)
     unfolding slot_nodes
-    nodes-drop k = slots_drop 0 k slots ∙ ap (λ (n : ℕ). slots_from left right n (drop k slots)) (zero-add k)
+    nodes_drop k = slots_drop 0 k slots ∙ ap (λ (n : ℕ). slots_from left right n (drop k slots)) (zero-add k)
 
     -- the slots before k
-    pub nodes-take : (k : ℕ) → take k (slot_nodes left right slots) ≡ slot_nodes left right (take k slots)
+    pub nodes_take : (k : ℕ) → take k (slot_nodes left right slots) ≡ slot_nodes left right (take k slots)
     unfolding slot_nodes
-    nodes-take k = slots_take 0 k slots
+    nodes_take k = slots_take 0 k slots
 
 module _ (left right left' right' : List ℕ) (slots : List ℕ) (k : ℕ) where
   -- the slots from k on, where their nodes are as they were
-  pub drop-kept : ((i : ℕ) → 1 ≤ weigh (only i) (drop k (slot_nodes left right slots)) → Same left right left' right' i)
+  pub drop_kept : ((i : ℕ) → 1 ≤ weigh (only i) (drop k (slot_nodes left right slots)) → Same left right left' right' i)
       → drop k (slot_nodes left' right' slots) ≡ drop k (slot_nodes left right slots)
-  drop-kept same =
-      rw (nodes-drop left right slots k, nodes-drop left' right' slots k)
-      (slots_kept left right left' right' k (drop k slots) (λ i h. same i (rw (nodes-drop left right slots k) h)))
+  drop_kept same =
+      rw (nodes_drop left right slots k, nodes_drop left' right' slots k)
+      (slots_kept left right left' right' k (drop k slots) (λ i h. same i (rw (nodes_drop left right slots k) h)))
 
   -- the slots before k
-  pub take-kept : ((i : ℕ) → 1 ≤ weigh (only i) (take k (slot_nodes left right slots)) → Same left right left' right' i)
+  pub take_kept : ((i : ℕ) → 1 ≤ weigh (only i) (take k (slot_nodes left right slots)) → Same left right left' right' i)
       → take k (slot_nodes left' right' slots) ≡ take k (slot_nodes left right slots)
-  take-kept same =
-      rw (nodes-take left right slots k, nodes-take left' right' slots k)
-      (nodes-kept left right left' right' (take k slots) (λ i h. same i (rw (nodes-take left right slots k) h)))
+  take_kept same =
+      rw (nodes_take left right slots k, nodes_take left' right' slots k)
+      (nodes_kept left right left' right' (take k slots) (λ i h. same i (rw (nodes_take left right slots k) h)))

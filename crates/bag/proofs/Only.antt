@@ -4,14 +4,14 @@ use native.Mathlib.Omega.{arith}
 use mathlib.Core.Path.{◌≡◌, refl, ap}
 use mathlib.Core.Bool.{Bool, true, false, cond, ◌&&◌}
 use lib.Dec.{eqb, ltb}
-use borrow.Author.Tests.{eqb-true, eqb-false, eq-eqb, ne_eqb, ltb-true, ltb-false, lt-ltb, le-ltb}
+use borrow.Author.Tests.{eqb-true, eqb-false, eq-eqb, ltb-true, ltb-false, lt-ltb, le-ltb}
 use Rattle.pennant.specs.Held.{only}
-use Rattle.pennant.proofs.Laws.{only_self, only-other}
+use Rattle.pennant.proofs.Laws.{only_self, only_other}
 use Rattle.bag.specs.Promises.{in_pool}
 
 -- where it does not count, it is another
-pub other-only : (i x : ℕ) → only i x ≡ 0 → x ≡ i → ⊥
-other-only i x h e = omega (arith, ap {B = ℕ} (λ (b : Bool). cond b 1 0) (eq-eqb x i e))
+pub other_only : (i x : ℕ) → only i x ≡ 0 → x ≡ i → ⊥
+other_only i x h e = omega (arith, ap {B = ℕ} (λ (b : Bool). cond b 1 0) (eq-eqb x i e))
 
 -- no node is used more than once
 pub in_pool_once : (places x : ℕ) → in_pool places x ≤ 1
@@ -54,13 +54,13 @@ in_pool_past places x h = go (ltb 0 x)
 
 -- a place more is a node more
 pub in_pool_next : (a x : ℕ) → in_pool (suc (suc a)) x ≡ only x (suc a) + in_pool (suc a) x
-in_pool_next a zero = omega (arith, in_pool_zero (suc (suc a)), in_pool_zero (suc a), only-other 0 (suc a) (λ (e : suc a ≡ 0). omega arith))
+in_pool_next a zero = omega (arith, in_pool_zero (suc (suc a)), in_pool_zero (suc a), only_other 0 (suc a) (λ (e : suc a ≡ 0). omega arith))
 in_pool_next a (suc x) = go (ltb (suc x) (suc a)) (eqb (suc a) (suc x)) refl refl
   where
     go : (b c : Bool) → ltb (suc x) (suc a) ≡ b → eqb (suc a) (suc x) ≡ c → in_pool (suc (suc a)) (suc x) ≡ only (suc x) (suc a) + in_pool (suc a) (suc x)
     go true c e d =
         let low = ltb-true (suc x) (suc a) e in
-        omega (arith, in_pool_lem (suc (suc a)) (suc x) (omega arith) (omega arith), in_pool_lem (suc a) (suc x) (omega arith) low, only-other (suc x) (suc a) (λ (q : suc a ≡ suc x). omega arith))
+        omega (arith, in_pool_lem (suc (suc a)) (suc x) (omega arith) (omega arith), in_pool_lem (suc a) (suc x) (omega arith) low, only_other (suc x) (suc a) (λ (q : suc a ≡ suc x). omega arith))
     go false true e d =
         let here : suc a ≡ suc x = eqb-true (suc a) (suc x) d in
         let past = ltb-false (suc x) (suc a) e in
@@ -68,7 +68,7 @@ in_pool_next a (suc x) = go (ltb (suc x) (suc a)) (eqb (suc a) (suc x)) refl ref
     go false false e d =
         let other = eqb-false (suc a) (suc x) d in
         let past = ltb-false (suc x) (suc a) e in
-        omega (arith, in_pool_past (suc (suc a)) (suc x) (omega arith), in_pool_past (suc a) (suc x) past, only-other (suc x) (suc a) other)
+        omega (arith, in_pool_past (suc (suc a)) (suc x) (omega arith), in_pool_past (suc a) (suc x) past, only_other (suc x) (suc a) other)
 
 -- more places allow no less
 pub in_pool_more : (few many x : ℕ) → few ≤ many → in_pool few x ≤ in_pool many x

@@ -10,41 +10,41 @@ use Rattle.lists.specs.Lists.{sum_of}
 use Rattle.pennant.specs.Pennant.{Slot, gap, tip, null, pennant_first, pennant_second}
 use Rattle.pennant.specs.Bag.{Bag, is_empty, bag_insert, insert_filled, bag_union, split_first, split_second, take_rest, taken_number}
 use Rattle.pennant.specs.Held.{weigh_tree, weigh_slot, weigh, only, copies, map_bag}
-use Rattle.pennant.proofs.Laws.{only_self, weigh_insert, weigh_union, weigh_split, weigh_halves, weigh-end, weigh-rest, map_insert, map_union, map_first, map-second, map-rest, map-taken, map_same}
+use Rattle.pennant.proofs.Laws.{only_self, weigh_insert, weigh_union, weigh_split, weigh_halves, weigh_end, weigh_rest, map_insert, map_union, map_first, map_second, map_rest, map_taken, map_same}
 use Rattle.bag.specs.declared.Bag as declared
 use Rattle.bag.specs.Nodes.{pennant_at, tree_at, slot_nodes, bag_with, held_by, free_nodes}
 use Rattle.bag.specs.Promises.{in_pool, weigh_nodes, weigh_free, uses, Pooled, Inserted, United, SplitInto, TakenFrom}
 use Rattle.bag.specs.Steps.{Loose, Placed, Shifted, Spilled}
-use Rattle.bag.proofs.Only.{other-only, in_pool_once, in_pool_within, in_pool_zero}
-use Rattle.bag.proofs.Kept.{Same, nodes-kept, nodes-at, nodes-shaped, length-nodes}
+use Rattle.bag.proofs.Only.{other_only, in_pool_once, in_pool_within, in_pool_zero}
+use Rattle.bag.proofs.Kept.{Same, nodes_kept, nodes_at, nodes_shaped, length_nodes}
 use Rattle.bag.proofs.Pairs.{pennant_some}
-use Rattle.bag.proofs.PlaceFacts.{none-gap}
+use Rattle.bag.proofs.PlaceFacts.{none_gap}
 use Rattle.bag.proofs.FilledFacts.{Lowest}
-use Rattle.bag.proofs.FormedFacts.{new-formed}
-use Rattle.bag.proofs.Free.{free-kept, free_pop, free_push, empty_weight}
+use Rattle.bag.proofs.FormedFacts.{new_formed}
+use Rattle.bag.proofs.Free.{free_kept, free_pop, free_push, empty_weight}
 
 -- 0 is in no bag and in no chain
-none-zero : (left right : List ℕ) (bags : List declared.Bag) → Pooled left right bags → uses 0 left right bags ≡ 0
-none-zero left right bags p = omega (arith, p.apart 0, in_pool_zero (length left))
+none_zero : (left right : List ℕ) (bags : List declared.Bag) → Pooled left right bags → uses 0 left right bags ≡ 0
+none_zero left right bags p = omega (arith, p.apart 0, in_pool_zero (length left))
 
 -- a list that is changed at nodes of the bags alone has the free chain that it had
-free-same : (left right : List ℕ) (bags : List declared.Bag) (left' : List ℕ) → Pooled left right bags → length left' ≡ length left
+free_same : (left right : List ℕ) (bags : List declared.Bag) (left' : List ℕ) → Pooled left right bags → length left' ≡ length left
     → ((i : ℕ) → weigh_nodes (only i) left right bags ≡ 0 → get_or left' i 0 ≡ get_or left i 0) → free_nodes left' ≡ free_nodes left
 unfolding weigh_free
-free-same left right bags left' p l kept =
-    free-kept left left' l (kept 0 (omega (arith, none-zero left right bags p))) (λ i h. kept i (omega (arith, h, p.apart i, in_pool_once (length left) i)))
+free_same left right bags left' p l kept =
+    free_kept left left' l (kept 0 (omega (arith, none_zero left right bags p))) (λ i h. kept i (omega (arith, h, p.apart i, in_pool_once (length left) i)))
 
 module _ (left right slots : List ℕ) {left' : List ℕ} {x : ℕ} (e : x ≡ get_or left 0 0) (d : left' ≡ set left 0 (get_or left x 0)) where
-  popped-list : left' ≡ set left 0 (get_or left (get_or left 0 0) 0)
-  popped-list = d ∙ ap (λ (n : ℕ). set left 0 (get_or left n 0)) e
+  popped_list : left' ≡ set left 0 (get_or left (get_or left 0 0) 0)
+  popped_list = d ∙ ap (λ (n : ℕ). set left 0 (get_or left n 0)) e
 
   -- the list and the node as the code leaves them, for the node that is to be placed
   pub loosened : Loose (set left 0 (get_or left (get_or left 0 0) 0)) right slots (get_or left 0 0) → Loose left' right slots x
-  loosened w = rw (popped-list, e) w
+  loosened w = rw (popped_list, e) w
 
   -- and for the bag that it is placed in
   pub placed_in : {left'' right'' slots'' : List ℕ} → Placed left' right slots x left'' right'' slots'' → Placed (set left 0 (get_or left (get_or left 0 0) 0)) right slots (get_or left 0 0) left'' right'' slots''
-  placed_in w = rw (popped-list, e) at w
+  placed_in w = rw (popped_list, e) at w
 
 module _ (left right : List ℕ) where
   -- union
@@ -59,16 +59,16 @@ module _ (left right : List ℕ) where
     held = λ values. ap (map_bag (λ x. get_or values x 0)) e ∙ map_union (λ x. get_or values x 0) (slot_nodes left right a) (slot_nodes left right b);
     moved = record {
       nodes = λ f. omega (arith, ap (weigh f) e, weigh_union f (slot_nodes left right a) (slot_nodes left right b), empty_weight left' right' f, ap (sum_of f) free);
-      kept-left = λ x h c. (kept x (omega arith)).0;
-      kept-right = λ x c. (kept x (omega arith)).1;
-      left-length = ll;
-      right-length = rl;
-      formed = (record { sixteen = long }, (new-formed, tt));
+      kept_left = λ x h c. (kept x (omega arith)).0;
+      kept_right = λ x c. (kept x (omega arith)).1;
+      left_length = ll;
+      right_length = rl;
+      formed = (record { sixteen = long }, (new_formed, tt));
     };
   }
     where
       free : free_nodes left' ≡ free_nodes left
-      free = free-same left right (bag_with a ∷ bag_with b ∷ []) left' p ll (λ i c. (kept i (omega arith)).0)
+      free = free_same left right (bag_with a ∷ bag_with b ∷ []) left' p ll (λ i c. (kept i (omega arith)).0)
 
   -- split, from the two bags as trees
   splits : (slots left' right' first second : List ℕ) → Pooled left right (bag_with slots ∷ []) → slot_nodes left' right' first ≡ split_first (slot_nodes left right slots) → slot_nodes left' right' second ≡ split_second (slot_nodes left right slots)
@@ -78,22 +78,22 @@ module _ (left right : List ℕ) where
   unfolding held_by weigh_nodes weigh_free sum_of
   splits slots left' right' first second p e d kept ll rl first-long second-long = record {
     free = free;
-    nodes-first = e;
-    nodes-second = d;
+    nodes_first = e;
+    nodes_second = d;
     held_first = λ values. ap (map_bag (λ x. get_or values x 0)) e ∙ map_first (λ x. get_or values x 0) (slot_nodes left right slots);
-    held-second = λ values. ap (map_bag (λ x. get_or values x 0)) d ∙ map-second (λ x. get_or values x 0) (slot_nodes left right slots);
+    held_second = λ values. ap (map_bag (λ x. get_or values x 0)) d ∙ map_second (λ x. get_or values x 0) (slot_nodes left right slots);
     moved = record {
       nodes = λ f. omega (arith, ap (weigh f) e, ap (weigh f) d, weigh_split f (slot_nodes left right slots), ap (sum_of f) free);
-      kept-left = λ x h c. (kept x (omega arith)).0;
-      kept-right = λ x c. (kept x (omega arith)).1;
-      left-length = ll;
-      right-length = rl;
+      kept_left = λ x h c. (kept x (omega arith)).0;
+      kept_right = λ x c. (kept x (omega arith)).1;
+      left_length = ll;
+      right_length = rl;
       formed = (record { sixteen = first-long }, (record { sixteen = second-long }, tt));
     };
   }
     where
       free : free_nodes left' ≡ free_nodes left
-      free = free-same left right (bag_with slots ∷ []) left' p ll (λ i c. (kept i (omega arith)).0)
+      free = free_same left right (bag_with slots ∷ []) left' p ll (λ i c. (kept i (omega arith)).0)
 
   module _ (slots : List ℕ) (p : Pooled left right (bag_with slots ∷ [])) where
     -- it has 16 slots
@@ -101,25 +101,25 @@ module _ (left right : List ℕ) where
     l = p.formed.0.sixteen
 
     -- each node of the bag is in it once
-    pool-once : (i : ℕ) → copies i (slot_nodes left right slots) ≤ 1
+    pool_once : (i : ℕ) → copies i (slot_nodes left right slots) ≤ 1
     unfolding weigh_nodes sum_of
-    pool-once i = omega (arith, p.apart i, in_pool_once (length left) i)
+    pool_once i = omega (arith, p.apart i, in_pool_once (length left) i)
 
     -- the bag by its slot 0 and the others
     parts : slot_nodes left right slots ≡ pennant_at left right 0 (get_or slots 0 0) ∷ drop 1 (slot_nodes left right slots)
-    parts = go (slot_nodes left right slots) (length-nodes left right slots ∙ l) (nodes-at left right slots 0)
+    parts = go (slot_nodes left right slots) (length_nodes left right slots ∙ l) (nodes_at left right slots 0)
       where
         go : (s : Bag) {x : Slot} → length s ≡ 16 → get_or s 0 gap ≡ x → s ≡ x ∷ drop 1 s
         go [] e d = absurd (omega arith)
         go (y ∷ s) e d = ap (λ (x : Slot). x ∷ s) d
 
-    parts-weigh : (f : ℕ → ℕ) → weigh f (slot_nodes left right slots) ≡ weigh_slot f (pennant_at left right 0 (get_or slots 0 0)) + weigh f (drop 1 (slot_nodes left right slots))
+    parts_weigh : (f : ℕ → ℕ) → weigh f (slot_nodes left right slots) ≡ weigh_slot f (pennant_at left right 0 (get_or slots 0 0)) + weigh f (drop 1 (slot_nodes left right slots))
     unfolding weigh sum_of
-    parts-weigh f = ap (weigh f) parts
+    parts_weigh f = ap (weigh f) parts
 
-    first-parts : split_first (slot_nodes left right slots) ≡ insert_filled (pennant_at left right 0 (get_or slots 0 0)) (map pennant_first (drop 1 (slot_nodes left right slots)) ++ gap ∷ [])
+    first_parts : split_first (slot_nodes left right slots) ≡ insert_filled (pennant_at left right 0 (get_or slots 0 0)) (map pennant_first (drop 1 (slot_nodes left right slots)) ++ gap ∷ [])
     unfolding split_first
-    first-parts = ap split_first parts
+    first_parts = ap split_first parts
 
     second_parts : split_second (slot_nodes left right slots) ≡ map pennant_second (drop 1 (slot_nodes left right slots)) ++ gap ∷ []
     unfolding split_second
@@ -131,10 +131,10 @@ module _ (left right : List ℕ) where
       halves_weigh f =
           omega (
             arith,
-            ap (weigh f) d.nodes-first,
-            ap (weigh f) d.nodes-second,
-            weigh-end f (map pennant_first (drop 1 (slot_nodes left right slots))),
-            weigh-end f (map pennant_second (drop 1 (slot_nodes left right slots))),
+            ap (weigh f) d.nodes_first,
+            ap (weigh f) d.nodes_second,
+            weigh_end f (map pennant_first (drop 1 (slot_nodes left right slots))),
+            weigh_end f (map pennant_second (drop 1 (slot_nodes left right slots))),
             weigh_halves f (drop 1 (slot_nodes left right slots)),
           )
 
@@ -143,9 +143,9 @@ module _ (left right : List ℕ) where
       unfolding insert_filled
       split_even e =
           splits slots left' right first second p
-          (d.nodes-first ∙ sym (first-parts ∙ ap (λ (x : Slot). insert_filled x (map pennant_first (drop 1 (slot_nodes left right slots)) ++ gap ∷ [])) (none-gap left right 0 (get_or slots 0 0) e)))
-          (d.nodes-second ∙ sym second_parts)
-          (λ i c. (d.kept i (omega (arith, c, parts-weigh (only i))), refl))
+          (d.nodes_first ∙ sym (first_parts ∙ ap (λ (x : Slot). insert_filled x (map pennant_first (drop 1 (slot_nodes left right slots)) ++ gap ∷ [])) (none_gap left right 0 (get_or slots 0 0) e)))
+          (d.nodes_second ∙ sym second_parts)
+          (λ i c. (d.kept i (omega (arith, c, parts_weigh (only i))), refl))
           ll
           refl
           first-long
@@ -158,7 +158,7 @@ module _ (left right : List ℕ) where
 
         odd_weigh : (f : ℕ → ℕ) → weigh f (slot_nodes left right slots) ≡ f (get_or slots 0 0) + weigh f (drop 1 (slot_nodes left right slots))
         unfolding weigh_slot weigh_tree
-        odd_weigh f = rw odd_slot at (parts-weigh f) ∙ omega arith
+        odd_weigh f = rw odd_slot at (parts_weigh f) ∙ omega arith
 
         -- the odd node is apart from the first half
         pub odd_loose : Loose left' right first (get_or slots 0 0)
@@ -176,8 +176,8 @@ module _ (left right : List ℕ) where
         unfolding insert_filled bag_insert
         split_odd left'' right'' whole q ll' rl whole_long =
             splits slots left'' right'' whole second p
-            (q.nodes ∙ ap (bag_insert (get_or slots 0 0)) d.nodes-first ∙ sym (first-parts ∙ ap (λ (x : Slot). insert_filled x (map pennant_first (drop 1 (slot_nodes left right slots)) ++ gap ∷ [])) odd_slot))
-            (nodes-kept left' right left'' right'' second (λ i c. off i (omega (arith, c, odd_weigh (only i), halves_weigh (only i), pool-once i))) ∙ d.nodes-second ∙ sym second_parts)
+            (q.nodes ∙ ap (bag_insert (get_or slots 0 0)) d.nodes_first ∙ sym (first_parts ∙ ap (λ (x : Slot). insert_filled x (map pennant_first (drop 1 (slot_nodes left right slots)) ++ gap ∷ [])) odd_slot))
+            (nodes_kept left' right left'' right'' second (λ i c. off i (omega (arith, c, odd_weigh (only i), halves_weigh (only i), pool_once i))) ∙ d.nodes_second ∙ sym second_parts)
             (λ i c.
             let same = off i (omega (arith, c, odd_weigh (only i), halves_weigh (only i))) in
             (same.0 ∙ d.kept i (omega (arith, c, odd_weigh (only i))), same.1))
@@ -187,29 +187,29 @@ module _ (left right : List ℕ) where
             second-long
           where
             off : (i : ℕ) → only i (get_or slots 0 0) + copies i (slot_nodes left' right first) ≡ 0 → Same left' right left'' right'' i
-            off i c = (q.kept-left i c, q.kept-right i c)
+            off i c = (q.kept_left i c, q.kept_right i c)
 
     -- what is taken: the root of the lowest filled slot
     module _ (f : is_empty (slot_nodes left right slots) ≡ false) (r : ℕ) (low : Lowest left right slots 0 r) where
       taken_root : taken_number (slot_nodes left right slots) ≡ get_or slots r 0
       taken_root = low.taken
 
-      taken-weigh : (g : ℕ → ℕ) → g (get_or slots r 0) + weigh g (take_rest (slot_nodes left right slots)) ≡ weigh g (slot_nodes left right slots)
-      taken-weigh g = rw taken_root at (weigh-rest g (slot_nodes left right slots) (nodes-shaped left right slots) f)
+      taken_weigh : (g : ℕ → ℕ) → g (get_or slots r 0) + weigh g (take_rest (slot_nodes left right slots)) ≡ weigh g (slot_nodes left right slots)
+      taken_weigh g = rw taken_root at (weigh_rest g (slot_nodes left right slots) (nodes_shaped left right slots) f)
 
-      taken-apart : (i : ℕ) → only i (get_or slots r 0) + copies i (take_rest (slot_nodes left right slots)) + sum_of (only i) (free_nodes left) ≤ in_pool (length left) i
+      taken_apart : (i : ℕ) → only i (get_or slots r 0) + copies i (take_rest (slot_nodes left right slots)) + sum_of (only i) (free_nodes left) ≤ in_pool (length left) i
       unfolding weigh_nodes weigh_free sum_of
-      taken-apart i = omega (arith, p.apart i, taken-weigh (only i))
+      taken_apart i = omega (arith, p.apart i, taken_weigh (only i))
 
       -- it is within the lists
-      pub taken-within : get_or slots r 0 < length left
-      taken-within = (in_pool_within (length left) (get_or slots r 0) (omega (arith, taken-apart (get_or slots r 0), only_self (get_or slots r 0)))).1
+      pub taken_within : get_or slots r 0 < length left
+      taken_within = (in_pool_within (length left) (get_or slots r 0) (omega (arith, taken_apart (get_or slots r 0), only_self (get_or slots r 0)))).1
 
       module _ (left' slots' : List ℕ) (d : Spilled left right slots r left' slots') (ll : length left' ≡ length left)
           (long : length slots' ≡ 16) where
-        free-left : free_nodes left' ≡ free_nodes left
+        free_left : free_nodes left' ≡ free_nodes left
         unfolding weigh_nodes sum_of
-        free-left = free-same left right (bag_with slots ∷ []) left' p ll (λ i c. d.kept i (omega arith))
+        free_left = free_same left right (bag_with slots ∷ []) left' p ll (λ i c. d.kept i (omega arith))
 
         left'' : List ℕ
         left'' = set (set left' (get_or slots r 0) (get_or left' 0 0)) 0 (get_or slots r 0)
@@ -219,28 +219,28 @@ module _ (left right : List ℕ) where
         unfolding left''
         off i c h =
             get_or-set_other (set left' (get_or slots r 0) (get_or left' 0 0)) 0 i (get_or slots r 0) 0 h
-            ∙ get_or-set_other left' (get_or slots r 0) i (get_or left' 0 0) 0 (λ (e : i ≡ get_or slots r 0). other-only i (get_or slots r 0) c (sym e))
+            ∙ get_or-set_other left' (get_or slots r 0) i (get_or left' 0 0) 0 (λ (e : i ≡ get_or slots r 0). other_only i (get_or slots r 0) c (sym e))
 
         rest : slot_nodes left'' right slots' ≡ take_rest (slot_nodes left right slots)
         unfolding take_rest left''
         rest =
-            nodes-kept left' right left'' right slots'
+            nodes_kept left' right left'' right slots'
             (λ i c.
             let held : 1 ≤ copies i (take_rest (slot_nodes left right slots)) = rw before at c in
-            (off i (omega (arith, held, taken-apart i, in_pool_once (length left) i)) (λ (e : i ≡ 0). some i held e), refl))
+            (off i (omega (arith, held, taken_apart i, in_pool_once (length left) i)) (λ (e : i ≡ 0). some i held e), refl))
             ∙ before
           where
             before : slot_nodes left' right slots' ≡ take_rest (slot_nodes left right slots)
             before = d.nodes ∙ sym low.rest
 
             some : (i : ℕ) → 1 ≤ copies i (take_rest (slot_nodes left right slots)) → i ≡ 0 → ⊥
-            some i h e = omega (arith, (in_pool_within (length left) i (omega (arith, h, taken-apart i))).0)
+            some i h e = omega (arith, (in_pool_within (length left) i (omega (arith, h, taken_apart i))).0)
 
         chain : free_nodes left'' ≡ get_or slots r 0 ∷ free_nodes left
         unfolding left''
         chain =
-            free_push left' (get_or slots r 0) (λ i. rw (free-left, ll) (omega (arith, taken-apart i)))
-            ∙ ap (λ (l : List ℕ). get_or slots r 0 ∷ l) free-left
+            free_push left' (get_or slots r 0) (λ i. rw (free_left, ll) (omega (arith, taken_apart i)))
+            ∙ ap (λ (l : List ℕ). get_or slots r 0 ∷ l) free_left
 
         -- take
         pub takes : (values : List ℕ) {left''' : List ℕ} {value : ℕ} → left''' ≡ set (set left' (get_or slots r 0) (get_or left' 0 0)) 0 (get_or slots r 0) → value ≡ get_or values (get_or slots r 0) 0
@@ -249,14 +249,14 @@ module _ (left right : List ℕ) where
         takes values {left'''} {value} e v = rw (e, v) (record {
           free = chain ∙ ap (λ (x : ℕ). x ∷ free_nodes left) (sym taken_root);
           nodes = rest;
-          taken = sym (map-taken (λ x. get_or values x 0) (slot_nodes left right slots) f ∙ ap (λ (x : ℕ). get_or values x 0) taken_root);
-          held = ap (map_bag (λ x. get_or values x 0)) rest ∙ map-rest (λ x. get_or values x 0) (slot_nodes left right slots);
+          taken = sym (map_taken (λ x. get_or values x 0) (slot_nodes left right slots) f ∙ ap (λ (x : ℕ). get_or values x 0) taken_root);
+          held = ap (map_bag (λ x. get_or values x 0)) rest ∙ map_rest (λ x. get_or values x 0) (slot_nodes left right slots);
           moved = record {
-            nodes = λ g. omega (arith, ap (weigh g) rest, ap (sum_of g) chain, taken-weigh g);
-            kept-left = λ x h c. off x (omega (arith, c, taken-weigh (only x))) (λ (q : x ≡ 0). omega arith) ∙ d.kept x (omega arith);
-            kept-right = λ x c. refl;
-            left-length = length-set (set left' (get_or slots r 0) (get_or left' 0 0)) 0 (get_or slots r 0) ∙ length-set left' (get_or slots r 0) (get_or left' 0 0) ∙ ll;
-            right-length = refl;
+            nodes = λ g. omega (arith, ap (weigh g) rest, ap (sum_of g) chain, taken_weigh g);
+            kept_left = λ x h c. off x (omega (arith, c, taken_weigh (only x))) (λ (q : x ≡ 0). omega arith) ∙ d.kept x (omega arith);
+            kept_right = λ x c. refl;
+            left_length = length-set (set left' (get_or slots r 0) (get_or left' 0 0)) 0 (get_or slots r 0) ∙ length-set left' (get_or slots r 0) (get_or left' 0 0) ∙ ll;
+            right_length = refl;
             formed = (record { sixteen = long }, tt);
           };
         })
@@ -267,24 +267,24 @@ module _ (left right : List ℕ) where
     unfolding weigh_free
     popped = free_pop left some (λ i. omega (arith, p.apart i))
 
-    next-apart : (i : ℕ) → only i (get_or left 0 0) + copies i (slot_nodes left right slots) + sum_of (only i) (free_nodes (set left 0 (get_or left (get_or left 0 0) 0))) ≤ in_pool (length left) i
+    next_apart : (i : ℕ) → only i (get_or left 0 0) + copies i (slot_nodes left right slots) + sum_of (only i) (free_nodes (set left 0 (get_or left (get_or left 0 0) 0))) ≤ in_pool (length left) i
     unfolding weigh_nodes weigh_free sum_of
-    next-apart i = omega (arith, p.apart i, ap (sum_of (only i)) popped)
+    next_apart i = omega (arith, p.apart i, ap (sum_of (only i)) popped)
 
     -- it is within the lists
-    pub next-within : get_or left 0 0 < length left
-    next-within = (in_pool_within (length left) (get_or left 0 0) (omega (arith, next-apart (get_or left 0 0), only_self (get_or left 0 0)))).1
+    pub next_within : get_or left 0 0 < length left
+    next_within = (in_pool_within (length left) (get_or left 0 0) (omega (arith, next_apart (get_or left 0 0), only_self (get_or left 0 0)))).1
 
     left' : List ℕ
     left' = set left 0 (get_or left (get_or left 0 0) 0)
 
     -- what is used is not 0
     used : (i : ℕ) → 1 ≤ copies i (slot_nodes left right slots) → i ≡ 0 → ⊥
-    used i h e = omega (arith, (in_pool_within (length left) i (omega (arith, h, next-apart i))).0)
+    used i h e = omega (arith, (in_pool_within (length left) i (omega (arith, h, next_apart i))).0)
 
-    bag-same : slot_nodes left' right slots ≡ slot_nodes left right slots
+    bag_same : slot_nodes left' right slots ≡ slot_nodes left right slots
     unfolding left'
-    bag-same = nodes-kept left right left' right slots (λ i c. (get_or-set_other left 0 i (get_or left (get_or left 0 0) 0) 0 (used i c), refl))
+    bag_same = nodes_kept left right left' right slots (λ i c. (get_or-set_other left 0 i (get_or left (get_or left 0 0) 0) 0 (used i c), refl))
 
     pub next_loose : Loose (set left 0 (get_or left (get_or left 0 0) 0)) right slots (get_or left 0 0)
     unfolding left'
@@ -292,7 +292,7 @@ module _ (left right : List ℕ) where
       few = rw (length-set left 0 (get_or left (get_or left 0 0) 0)) p.few;
       wide = rw (length-set left 0 (get_or left (get_or left 0 0) 0)) p.wide;
       some = some;
-      apart = λ i. rw (bag-same, length-set left 0 (get_or left (get_or left 0 0) 0)) (omega (arith, next-apart i));
+      apart = λ i. rw (bag_same, length-set left 0 (get_or left (get_or left 0 0) 0)) (omega (arith, next_apart i));
     }
 
     -- insert
@@ -305,32 +305,32 @@ module _ (left right : List ℕ) where
       free = popped ∙ ap (λ (l : List ℕ). get_or left 0 0 ∷ l) (sym chain);
       nodes = nodes;
       stored = e;
-      kept-value = λ x h c. rw e (get_or-set_other values (get_or left 0 0) x value 0 (λ (q : x ≡ get_or left 0 0). omega (arith, c, ap (sum_of (only x)) popped, only_self x, ap (λ (n : ℕ). only x n) q)));
+      kept_value = λ x h c. rw e (get_or-set_other values (get_or left 0 0) x value 0 (λ (q : x ≡ get_or left 0 0). omega (arith, c, ap (sum_of (only x)) popped, only_self x, ap (λ (n : ℕ). only x n) q)));
       held =
           ap (map_bag (λ x. get_or values'' x 0)) nodes
           ∙ map_insert (λ x. get_or values'' x 0) (get_or left 0 0) (slot_nodes left right slots)
           ∙ rw (stored, map_same (λ x. get_or values'' x 0) (λ x. get_or values x 0) (slot_nodes left right slots) others);
       moved = record {
         nodes = λ f. omega (arith, ap (weigh f) nodes, weigh_insert f (get_or left 0 0) (slot_nodes left right slots), ap (sum_of f) chain, ap (sum_of f) popped);
-        kept-left = λ x h c. d.kept-left x (rw bag-same (omega (arith, c, ap (sum_of (only x)) popped))) ∙ get_or-set_other left 0 x (get_or left (get_or left 0 0) 0) 0 (λ (q : x ≡ 0). omega arith);
-        kept-right = λ x c. d.kept-right x (rw bag-same (omega (arith, c, ap (sum_of (only x)) popped)));
-        left-length = ll;
-        right-length = rl;
+        kept_left = λ x h c. d.kept_left x (rw bag_same (omega (arith, c, ap (sum_of (only x)) popped))) ∙ get_or-set_other left 0 x (get_or left (get_or left 0 0) 0) 0 (λ (q : x ≡ 0). omega arith);
+        kept_right = λ x c. d.kept_right x (rw bag_same (omega (arith, c, ap (sum_of (only x)) popped)));
+        left_length = ll;
+        right_length = rl;
         formed = (record { sixteen = long }, tt);
       };
     }
       where
         nodes : slot_nodes left'' right'' slots'' ≡ bag_insert (get_or left 0 0) (slot_nodes left right slots)
-        nodes = d.nodes ∙ ap (bag_insert (get_or left 0 0)) bag-same
+        nodes = d.nodes ∙ ap (bag_insert (get_or left 0 0)) bag_same
 
         chain : free_nodes left'' ≡ free_nodes left'
         chain =
-            free-kept left' left'' (ll ∙ sym (length-set left 0 (get_or left (get_or left 0 0) 0)))
-            (d.kept-left 0 (rw bag-same (omega (arith, next-apart 0, in_pool_zero (length left)))))
-            (λ i h. d.kept-left i (rw bag-same (omega (arith, h, next-apart i, in_pool_once (length left) i))))
+            free_kept left' left'' (ll ∙ sym (length-set left 0 (get_or left (get_or left 0 0) 0)))
+            (d.kept_left 0 (rw bag_same (omega (arith, next_apart 0, in_pool_zero (length left)))))
+            (λ i h. d.kept_left i (rw bag_same (omega (arith, h, next_apart i, in_pool_once (length left) i))))
 
         stored : get_or values'' (get_or left 0 0) 0 ≡ value
-        stored = rw e (get_or-set_same values (get_or left 0 0) value 0 (omega (arith, next-within)))
+        stored = rw e (get_or-set_same values (get_or left 0 0) value 0 (omega (arith, next_within)))
 
         others : (i : ℕ) → 1 ≤ copies i (slot_nodes left right slots) → get_or values'' i 0 ≡ get_or values i 0
-        others i h = rw e (get_or-set_other values (get_or left 0 0) i value 0 (λ (q : i ≡ get_or left 0 0). omega (arith, h, next-apart i, in_pool_once (length left) i, only_self i, ap (λ (n : ℕ). only i n) q)))
+        others i h = rw e (get_or-set_other values (get_or left 0 0) i value 0 (λ (q : i ≡ get_or left 0 0). omega (arith, h, next_apart i, in_pool_once (length left) i, only_self i, ap (λ (n : ℕ). only i n) q)))

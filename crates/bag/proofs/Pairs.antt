@@ -8,12 +8,12 @@ use lib.Seq.{get_or-set_same, get_or-set_other}
 use Rattle.lists.specs.Lists.{sum_of}
 use Rattle.pennant.specs.Pennant.{Tree, tip, pennant_union, pennant_first, pennant_second}
 use Rattle.pennant.specs.Held.{weigh_tree, weigh_slot, only}
-use Rattle.pennant.proofs.Laws.{only_self, only-other}
+use Rattle.pennant.proofs.Laws.{only_self, only_other}
 use Rattle.bag.specs.Nodes.{tree_at, pennant_at}
 use Rattle.bag.specs.Promises.{in_pool}
 use Rattle.bag.specs.Steps.{uses_at, Pennants, Halved}
-use Rattle.bag.proofs.Only.{other-only, in_pool_once, in_pool_within}
-use Rattle.bag.proofs.Kept.{Same, tree-kept}
+use Rattle.bag.proofs.Only.{other_only, in_pool_once, in_pool_within}
+use Rattle.bag.proofs.Kept.{Same, tree_kept}
 
 -- a slot that is filled
 pub pennant_some : (left right : List ℕ) (k x : ℕ) → (x ≡ 0 → ⊥) → pennant_at left right k x ≡ tip x (tree_at left right k (get_or left x 0))
@@ -37,8 +37,8 @@ module _ (left right : List ℕ) (k : ℕ) where
   -- a node that is neither x nor y is as it was
   link_off : (x y i : ℕ) → only i x + only i y ≡ 0 → Same left right (set left x y) (set right y (get_or left x 0)) i
   link_off x y i c = (
-    get_or-set_other left x i y 0 (λ (e : i ≡ x). other-only i x (omega arith) (sym e)),
-    get_or-set_other right y i (get_or left x 0) 0 (λ (e : i ≡ y). other-only i y (omega arith) (sym e)),
+    get_or-set_other left x i y 0 (λ (e : i ≡ x). other_only i x (omega arith) (sym e)),
+    get_or-set_other right y i (get_or left x 0) 0 (λ (e : i ≡ y). other_only i y (omega arith) (sym e)),
   )
 
   -- link x y: the pennant with the root x is the union
@@ -52,8 +52,8 @@ module _ (left right : List ℕ) (k : ℕ) where
         get_or-set_same left (suc x) (suc y) 0 in_x.1,
         get_or-set_other left (suc x) (suc y) (suc y) 0 (λ (e : suc y ≡ suc x). other e),
         get_or-set_same right (suc y) (get_or left (suc x) 0) 0 (omega (arith, in_y.1, p.wide)),
-        tree-kept left right left' right' k (get_or left (suc x) 0) (λ i c. link_off (suc x) (suc y) i (omega (arith, c, p.apart i, in_pool_once (length left) i))),
-        tree-kept left right left' right' k (get_or left (suc y) 0) (λ i c. link_off (suc x) (suc y) i (omega (arith, c, p.apart i, in_pool_once (length left) i))),
+        tree_kept left right left' right' k (get_or left (suc x) 0) (λ i c. link_off (suc x) (suc y) i (omega (arith, c, p.apart i, in_pool_once (length left) i))),
+        tree_kept left right left' right' k (get_or left (suc y) 0) (λ i c. link_off (suc x) (suc y) i (omega (arith, c, p.apart i, in_pool_once (length left) i))),
       )
     where
       left' : List ℕ
@@ -79,11 +79,11 @@ module _ (left right : List ℕ) (k : ℕ) where
   link_kept (suc x) (suc y) i h g c = link_off (suc x) (suc y) i (omega arith)
 
   -- a pennant of more than one node: the root of the half is a node, and another
-  pub half-within : (x : ℕ) → (x ≡ 0 → ⊥) → Pennants left right (suc k) (x ∷ [])
+  pub half_within : (x : ℕ) → (x ≡ 0 → ⊥) → Pennants left right (suc k) (x ∷ [])
       → (x < length left) × (0 < get_or left x 0) × (get_or left x 0 < length left) × (get_or left x 0 ≡ x → ⊥)
   unfolding pennant_at tree_at sum_of weigh_slot weigh_tree
-  half-within zero h p = absurd (h refl)
-  half-within (suc x) h p = (
+  half_within zero h p = absurd (h refl)
+  half_within (suc x) h p = (
     in_x.1,
     in_y.0,
     in_y.1,
@@ -106,17 +106,17 @@ module _ (left right : List ℕ) (k : ℕ) where
   halve_pennant zero h p = absurd (h refl)
   halve_pennant (suc x) h p = record {
     first =
-        rw (get_or-set_same left (suc x) (get_or right half 0) 0 within.0) (ap (λ (t : Tree). tip (suc x) t) (kept-tree (get_or right half 0) (λ i c. omega (arith, c, p.apart i, in_pool_once (length left) i))));
+        rw (get_or-set_same left (suc x) (get_or right half 0) 0 within.0) (ap (λ (t : Tree). tip (suc x) t) (kept_tree (get_or right half 0) (λ i c. omega (arith, c, p.apart i, in_pool_once (length left) i))));
     second =
         pennant_some left' right k half (λ (q : half ≡ 0). omega (arith, within.1))
         ∙ ap (λ (t : Tree). tip half t)
-        (ap (λ (n : ℕ). tree_at left' right k n) (same half (only-other half (suc x) (λ (q : suc x ≡ half). within.3 (sym q))))
-        ∙ kept-tree (get_or left half 0) (λ i c. omega (arith, c, p.apart i, in_pool_once (length left) i)));
+        (ap (λ (n : ℕ). tree_at left' right k n) (same half (only_other half (suc x) (λ (q : suc x ≡ half). within.3 (sym q))))
+        ∙ kept_tree (get_or left half 0) (λ i c. omega (arith, c, p.apart i, in_pool_once (length left) i)));
     kept = λ i c. same i (omega arith);
   }
     where
       within : (suc x < length left) × (0 < get_or left (suc x) 0) × (get_or left (suc x) 0 < length left) × (get_or left (suc x) 0 ≡ suc x → ⊥)
-      within = half-within (suc x) h p
+      within = half_within (suc x) h p
 
       half : ℕ
       half = get_or left (suc x) 0
@@ -126,11 +126,11 @@ module _ (left right : List ℕ) (k : ℕ) where
 
       -- a node but the root is as it was
       same : (i : ℕ) → only i (suc x) ≡ 0 → get_or left' i 0 ≡ get_or left i 0
-      same i c = get_or-set_other left (suc x) i (get_or right half 0) 0 (λ (q : i ≡ suc x). other-only i (suc x) c (sym q))
+      same i c = get_or-set_other left (suc x) i (get_or right half 0) 0 (λ (q : i ≡ suc x). other_only i (suc x) c (sym q))
 
       -- a tree without the root is as it was
-      kept-tree : (x' : ℕ) → ((i : ℕ) → 1 ≤ weigh_tree (only i) (tree_at left right k x') → only i (suc x) ≡ 0) → tree_at left' right k x' ≡ tree_at left right k x'
-      kept-tree x' off = tree-kept left right left' right k x' (λ i c. (same i (off i c), refl))
+      kept_tree : (x' : ℕ) → ((i : ℕ) → 1 ≤ weigh_tree (only i) (tree_at left right k x') → only i (suc x) ≡ 0) → tree_at left' right k x' ≡ tree_at left right k x'
+      kept_tree x' off = tree_kept left right left' right k x' (λ i c. (same i (off i c), refl))
 
 -- where there is no pennant, nothing is split
 pub halve_zero : (left right : List ℕ) (k x : ℕ) → x ≡ 0 → Halved left right k x left 0

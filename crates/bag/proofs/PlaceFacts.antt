@@ -15,19 +15,19 @@ use Rattle.bag.specs.Nodes.{tree_at, pennant_at, slot_nodes}
 use Rattle.bag.specs.Promises.{in_pool}
 use Rattle.bag.specs.Steps.{Pennants, Loose, Placed}
 use Rattle.bag.proofs.Only.{in_pool_once, in_pool_within}
-use Rattle.bag.proofs.Kept.{Same, nodes-kept, nodes-at, nodes-set, length-nodes, pennant_shaped}
+use Rattle.bag.proofs.Kept.{Same, nodes_kept, nodes_at, nodes_set, length_nodes, pennant_shaped}
 use Rattle.bag.proofs.Few.{rank_below}
 use Rattle.bag.proofs.Pairs.{pennant_some, root_counts, link_pennant, link_kept}
-use Rattle.bag.proofs.Backbone.{insert_pass, insert_here, weigh-parts, slot_weighs}
+use Rattle.bag.proofs.Backbone.{insert_pass, insert_here, weigh_parts, slot_weighs}
 
 -- a filled slot is no gap
-pub some-filled : (left right : List ℕ) (k x : ℕ) → (x ≡ 0 → ⊥) → is_gap (pennant_at left right k x) ≡ false
-some-filled left right k x h = ap is_gap (pennant_some left right k x h)
+pub some_filled : (left right : List ℕ) (k x : ℕ) → (x ≡ 0 → ⊥) → is_gap (pennant_at left right k x) ≡ false
+some_filled left right k x h = ap is_gap (pennant_some left right k x h)
 
 -- an empty one is
-pub none-gap : (left right : List ℕ) (k x : ℕ) → x ≡ 0 → pennant_at left right k x ≡ gap
+pub none_gap : (left right : List ℕ) (k x : ℕ) → x ≡ 0 → pennant_at left right k x ≡ gap
 unfolding pennant_at
-none-gap left right k x e = ap (λ (n : ℕ). pennant_at left right k n) e
+none_gap left right k x e = ap (λ (n : ℕ). pennant_at left right k n) e
 
 module _ (left₀ right₀ slots₀ : List ℕ) (x : ℕ) where
   -- before slot k the insertion is done, from slot k on it is that of the pennant at root
@@ -37,8 +37,8 @@ module _ (left₀ right₀ slots₀ : List ℕ) (x : ℕ) where
     pub some : root ≡ 0 → ⊥
     pub below : k < 16
     pub long : length slots ≡ 16
-    pub left-length : length left ≡ length left₀
-    pub right-length : length right ≡ length right₀
+    pub left_length : length left ≡ length left₀
+    pub right_length : length right ≡ length right₀
 
   -- at the start
   pub placing_start : Loose left₀ right₀ slots₀ x → length slots₀ ≡ 16 → Placing left₀ right₀ slots₀ x 0
@@ -49,8 +49,8 @@ module _ (left₀ right₀ slots₀ : List ℕ) (x : ℕ) where
     some = p.some;
     below = omega arith;
     long = l;
-    left-length = refl;
-    right-length = refl;
+    left_length = refl;
+    right_length = refl;
   }
 
   -- the same, of lists that are known to be these
@@ -66,16 +66,16 @@ module _ (left₀ right₀ slots₀ : List ℕ) (x : ℕ) where
           ap (λ (s : Bag). weigh f s) w.tree,
           weigh_append f (take k (slot_nodes left right slots)) (insert_pennant (pennant_at left right k root) (drop k (slot_nodes left right slots))),
           weigh_insert_pennant f (pennant_at left right k root) (drop k (slot_nodes left right slots)),
-          weigh-parts f k (slot_nodes left right slots),
+          weigh_parts f k (slot_nodes left right slots),
           weigh_insert f x (slot_nodes left₀ right₀ slots₀),
         )
 
     -- each is used at most once
     placing_apart : (i : ℕ) → weigh_slot (only i) (pennant_at left right k root) + copies i (slot_nodes left right slots) ≤ in_pool (length left) i
-    placing_apart i = rw w.left-length (omega (arith, placing_weighs (only i), p.apart i))
+    placing_apart i = rw w.left_length (omega (arith, placing_weighs (only i), p.apart i))
 
     filled_within : k < length (slot_nodes left right slots)
-    filled_within = rw (length-nodes left right slots) (omega (arith, w.below, w.long))
+    filled_within = rw (length_nodes left right slots) (omega (arith, w.below, w.long))
 
     slot_counts : (i : ℕ) → weigh (only i) (slot_nodes left right (set slots k 0)) + weigh_slot (only i) (pennant_at left right k (get_or slots k 0)) ≡ copies i (slot_nodes left right slots)
     slot_counts i = slot_weighs left right slots k (omega (arith, w.below, w.long)) (only i)
@@ -83,7 +83,7 @@ module _ (left₀ right₀ slots₀ : List ℕ) (x : ℕ) where
     -- the pennant in a filled slot and the one on its way are apart
     pub placing_pair : Pennants left right k (get_or slots k 0 ∷ root ∷ [])
     unfolding sum_of
-    placing_pair = record { wide = omega (arith, p.wide, w.left-length, w.right-length); apart = λ i. omega (arith, placing_apart i, slot_counts i) }
+    placing_pair = record { wide = omega (arith, p.wide, w.left_length, w.right_length); apart = λ i. omega (arith, placing_apart i, slot_counts i) }
 
     pub placing_root : root < length left
     placing_root = (in_pool_within (length left) root (omega (arith, placing_apart root, root_counts left right k root w.some))).1
@@ -99,10 +99,10 @@ module _ (left₀ right₀ slots₀ : List ℕ) (x : ℕ) where
       right' = set right root (get_or left (get_or slots k 0) 0)
 
       -- the slots that stay are as they were
-      others-kept : slot_nodes left' right' (set slots k 0) ≡ slot_nodes left right (set slots k 0)
+      others_kept : slot_nodes left' right' (set slots k 0) ≡ slot_nodes left right (set slots k 0)
       unfolding left' right' sum_of
-      others-kept =
-          nodes-kept left right left' right' (set slots k 0)
+      others_kept =
+          nodes_kept left right left' right' (set slots k 0)
           (λ i c. link_kept left right k (get_or slots k 0) root i filled w.some (omega (arith, c, placing_apart i, slot_counts i, in_pool_once (length left) i)))
 
       -- the united pennant
@@ -119,27 +119,27 @@ module _ (left₀ right₀ slots₀ : List ℕ) (x : ℕ) where
       unfolding left' right' pennant_at sum_of
       placing_step = record {
         tree =
-            rw (add-one k, others-kept, whole, nodes-set left right slots k 0)
-            (sym (rw (nodes-at left right slots k) at (insert_pass k (pennant_at left right k root) (slot_nodes left right slots) filled_within (ap is_gap (nodes-at left right slots k) ∙ some-filled left right k (get_or slots k 0) filled)))
+            rw (add-one k, others_kept, whole, nodes_set left right slots k 0)
+            (sym (rw (nodes_at left right slots k) at (insert_pass k (pennant_at left right k root) (slot_nodes left right slots) filled_within (ap is_gap (nodes_at left right slots k) ∙ some_filled left right k (get_or slots k 0) filled)))
             ∙ w.tree);
         kept = λ i c.
             let same = link_kept left right k (get_or slots k 0) root i filled w.some (omega (arith, c, placing_weighs (only i), slot_counts i)) in
             let before = w.kept i c in
             (same.0 ∙ before.0, same.1 ∙ before.1);
         some = filled;
-        below = omega (arith, rank_below (length left) (suc k) (pennant_at left' right' (suc k) (get_or slots k 0)) (pennant_shaped left' right' (suc k) (get_or slots k 0)) (some-filled left' right' (suc k) (get_or slots k 0) filled) whole_apart (omega (arith, w.left-length, p.few)));
+        below = omega (arith, rank_below (length left) (suc k) (pennant_at left' right' (suc k) (get_or slots k 0)) (pennant_shaped left' right' (suc k) (get_or slots k 0)) (some_filled left' right' (suc k) (get_or slots k 0) filled) whole_apart (omega (arith, w.left_length, p.few)));
         long = length-set slots k 0 ∙ w.long;
-        left-length = length-set left (get_or slots k 0) root ∙ w.left-length;
-        right-length = length-set right root (get_or left (get_or slots k 0) 0) ∙ w.right-length;
+        left_length = length-set left (get_or slots k 0) root ∙ w.left_length;
+        right_length = length-set right root (get_or left (get_or slots k 0) 0) ∙ w.right_length;
       }
 
     -- at an empty slot the insertion ends
     pub placing_done : get_or slots k 0 ≡ 0 → Placed left₀ right₀ slots₀ x left right (set slots k root)
     placing_done empty = record {
       nodes =
-          nodes-set left right slots k root
-          ∙ sym (insert_here k (pennant_at left right k root) (slot_nodes left right slots) filled_within (ap is_gap (nodes-at left right slots k ∙ none-gap left right k (get_or slots k 0) empty)))
+          nodes_set left right slots k root
+          ∙ sym (insert_here k (pennant_at left right k root) (slot_nodes left right slots) filled_within (ap is_gap (nodes_at left right slots k ∙ none_gap left right k (get_or slots k 0) empty)))
           ∙ w.tree;
-      kept-left = λ i c. (w.kept i c).0;
-      kept-right = λ i c. (w.kept i c).1;
+      kept_left = λ i c. (w.kept i c).0;
+      kept_right = λ i c. (w.kept i c).1;
     }

@@ -32,7 +32,7 @@ abbrev pub AllFormed : List declared.Bag → Type 0
 AllFormed [] = Unit {0}
 AllFormed (bag ∷ bags) = Formed bag × AllFormed bags
 
--- a well_formed pool with these bags
+-- a well-formed pool with these bags
 pub record Pooled (left right : List ℕ) (bags : List declared.Bag) : Type 0 where
   -- there is a place 0, where the free chain starts
   pub some : 0 < length left
@@ -52,12 +52,12 @@ pub record Moved (left right : List ℕ) (bags : List declared.Bag)
   pub nodes : (f : ℕ → ℕ) → weigh_nodes f left' right' bags' + weigh_free f left'
       ≡ weigh_nodes f left right bags + weigh_free f left
   -- a node outside both keeps its left child (place 0 belongs to no node)
-  pub kept-left : (x : ℕ) → 0 < x → uses x left right bags ≡ 0 → get_or left' x 0 ≡ get_or left x 0
+  pub kept_left : (x : ℕ) → 0 < x → uses x left right bags ≡ 0 → get_or left' x 0 ≡ get_or left x 0
   -- and its right child
-  pub kept-right : (x : ℕ) → uses x left right bags ≡ 0 → get_or right' x 0 ≡ get_or right x 0
+  pub kept_right : (x : ℕ) → uses x left right bags ≡ 0 → get_or right' x 0 ≡ get_or right x 0
   -- the lists keep their lengths
-  pub left-length : length left' ≡ length left
-  pub right-length : length right' ≡ length right
+  pub left_length : length left' ≡ length left
+  pub right_length : length right' ≡ length right
   -- each bag afterwards, by itself
   pub formed : AllFormed bags'
 
@@ -71,7 +71,7 @@ pub record Inserted (left right values : List ℕ) (bag : declared.Bag) (value :
   -- it gets the number
   pub stored : values' ≡ set values (get_or left 0 0) value
   -- a node outside the bag and the free chain keeps its number
-  pub kept-value : (x : ℕ) → 0 < x → uses x left right (bag ∷ []) ≡ 0 → get_or values' x 0 ≡ get_or values x 0
+  pub kept_value : (x : ℕ) → 0 < x → uses x left right (bag ∷ []) ≡ 0 → get_or values' x 0 ≡ get_or values x 0
   -- the bag of numbers held gains the number
   pub held : held_by left' right' values' bag' ≡ bag_insert value (held_by left right values bag)
   -- bags and free chain together keep their nodes, and every other node is as it was
@@ -97,11 +97,12 @@ pub record SplitInto (left right : List ℕ) (bag : declared.Bag)
   -- the free chain is as it was
   pub free : free_nodes left' ≡ free_nodes left
   -- the bag of nodes becomes two
-  pub nodes-first : nodes_of left' right' first ≡ split_first (nodes_of left right bag)
-  pub nodes-second : nodes_of left' right' second ≡ split_second (nodes_of left right bag)
+  pub nodes_first : nodes_of left' right' first ≡ split_first (nodes_of left right bag)
+  pub nodes_second : nodes_of left' right' second ≡ split_second (nodes_of left right bag)
   -- and so does the bag of numbers held, whatever the numbers are
   pub held_first : (values : List ℕ) → held_by left' right' values first ≡ split_first (held_by left right values bag)
-  pub held-second : (values : List ℕ) → held_by left' right' values second ≡ split_second (held_by left right values bag)
+  pub held_second : (values : List ℕ)
+      → held_by left' right' values second ≡ split_second (held_by left right values bag)
   -- bags and free chain together keep their nodes, and every other node is as it was
   pub moved : Moved left right (bag ∷ []) left' right' (first ∷ second ∷ [])
 

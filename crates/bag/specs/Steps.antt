@@ -53,8 +53,8 @@ pub record Added (left right : List ℕ) (k x y z : ℕ) (left' right' : List �
   pub carried : pennant_at left' right' (suc k) carry
       ≡ adder_carry (pennant_at left right k x) (pennant_at left right k y) (pennant_at left right k z)
   -- a node outside the three pennants keeps its children
-  pub kept-left : (i : ℕ) → uses_at i left right k (x ∷ y ∷ z ∷ []) ≡ 0 → get_or left' i 0 ≡ get_or left i 0
-  pub kept-right : (i : ℕ) → uses_at i left right k (x ∷ y ∷ z ∷ []) ≡ 0 → get_or right' i 0 ≡ get_or right i 0
+  pub kept_left : (i : ℕ) → uses_at i left right k (x ∷ y ∷ z ∷ []) ≡ 0 → get_or left' i 0 ≡ get_or left i 0
+  pub kept_right : (i : ℕ) → uses_at i left right k (x ∷ y ∷ z ∷ []) ≡ 0 → get_or right' i 0 ≡ get_or right i 0
 
 -- a bag and a node apart from it
 pub record Loose (left right slots : List ℕ) (x : ℕ) : Type 0 where
@@ -72,15 +72,17 @@ pub record Placed (left right slots : List ℕ) (x : ℕ) (left' right' slots' :
   -- the bag gains the node
   pub nodes : slot_nodes left' right' slots' ≡ bag_insert x (slot_nodes left right slots)
   -- every other node keeps its children
-  pub kept-left : (i : ℕ) → only i x + copies i (slot_nodes left right slots) ≡ 0 → get_or left' i 0 ≡ get_or left i 0
-  pub kept-right : (i : ℕ) → only i x + copies i (slot_nodes left right slots) ≡ 0 → get_or right' i 0 ≡ get_or right i 0
+  pub kept_left : (i : ℕ) → only i x + copies i (slot_nodes left right slots) ≡ 0 → get_or left' i 0 ≡ get_or left i 0
+  pub kept_right : (i : ℕ) → only i x + copies i (slot_nodes left right slots) ≡ 0
+      → get_or right' i 0 ≡ get_or right i 0
 
 -- BAG-SPLIT on the lists, but for the pennant in slot 0
 pub record Shifted (left right slots left' first second : List ℕ) : Type 0 where
   -- one slot down, what the roots keep
-  pub nodes-first : slot_nodes left' right first ≡ map pennant_first (drop 1 (slot_nodes left right slots)) ++ gap ∷ []
+  pub nodes_first : slot_nodes left' right first ≡ map pennant_first (drop 1 (slot_nodes left right slots)) ++ gap ∷ []
   -- one slot down, what is split off
-  pub nodes-second : slot_nodes left' right second ≡ map pennant_second (drop 1 (slot_nodes left right slots)) ++ gap ∷ []
+  pub nodes_second : slot_nodes left' right second
+      ≡ map pennant_second (drop 1 (slot_nodes left right slots)) ++ gap ∷ []
   -- a node outside the pennants past slot 0 keeps its left child
   pub kept : (i : ℕ) → weigh (only i) (drop 1 (slot_nodes left right slots)) ≡ 0 → get_or left' i 0 ≡ get_or left i 0
 

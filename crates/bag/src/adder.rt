@@ -20,7 +20,7 @@ const TABLE: [[u8; 3]; 8] = [
 ];
 
 // s and c of FA.
-#[derive(Drop)]
+#[derive(Clone, Copy)]
 pub struct Sum {
     pub slot: u16,
     pub carry: u16,

@@ -2,6 +2,8 @@
 // and the number that a node holds. Nodes are numbered from 1; 0 is none. The free nodes are chained
 // through left, from place 0 on, which is no node's. No operation walks a tree: each touches at most
 // the 16 slots of the bags it is given and, for a filled slot, one or two nodes.
+#![tactic(auto)]
+
 ghost use Rattle.std.specs.Prelude.{◌≡◌, ℕ, List, [], ◌∷◌};
 ghost use Rattle.pennant.specs.Bag.{is_empty, at_least_two};
 ghost use Rattle.bag.specs.Nodes.{held_by, new_bag};
@@ -16,20 +18,20 @@ pub use operations::{insert, split, take, union};
 pub use store::{pool, sweep};
 
 // "a backbone of 16 slots": slot k is 0 or the root of a pennant of 2^k nodes.
-#[derive(Drop)]
+#[derive(Clone, Copy)]
 pub struct Bag {
     pub slots: [u16; 16],
 }
 
 // The two bags of a split.
-#[derive(Drop)]
+#[derive(Clone, Copy)]
 pub struct Halves {
     pub first: Bag,
     pub second: Bag,
 }
 
 // What take leaves, and the number that it took.
-#[derive(Drop)]
+#[derive(Clone, Copy)]
 pub struct Taken {
     pub bag: Bag,
     pub value: u16,

@@ -34,7 +34,7 @@ fn place(bag: Bag, x: u16, left: &mut [u16], right: &mut [u16]) -> Bag
 pub fn insert(bag: Bag, value: u16, left: &mut [u16], right: &mut [u16], values: &mut [u16]) -> Bag
     requires pooled { Pooled left.old right.old (bag ∷ []) }
     requires left_in_bounds { length left.old ≤ length values.old }
-    requires fact { get_or left.old 0 0 ≡ 0 → ⊥ }
+    requires some_free { get_or left.old 0 0 ≡ 0 → ⊥ }
     ensures { Inserted left.old right.old values.old bag value
         left.new right.new values.new result }
 {
@@ -110,7 +110,7 @@ pub fn split(bag: Bag, left: &mut [u16], right: &mut [u16]) -> Halves
 fn spill(bag: Bag, from: usize, left: &mut [u16], right: &[u16]) -> Bag
     requires pooled { Pooled left.old right.now (bag ∷ []) }
     requires from_bound { from < 16 }
-    requires fact { get_or bag.slots from 0 ≡ 0 → ⊥ }
+    requires filled { get_or bag.slots from 0 ≡ 0 → ⊥ }
     ensures { Spilled left.old right.now bag.slots from left.new result.slots }
 {
     let mut slots = bag.slots;

@@ -9,7 +9,7 @@ use crate::counts::raise;
 use bag::Bag;
 
 // What a take leaves, and the number taken.
-#[derive(Drop)]
+#[derive(Clone, Copy)]
 pub struct Drawn {
     pub bags: [Bag; 4],
     pub value: u16,
@@ -79,7 +79,7 @@ pub fn unite(bags: [Bag; 4], i: usize, j: usize, left: &mut [u16], right: &mut [
     requires pooled { Pooled left.old right.old bags }
     requires i_bound { i < 4 }
     requires j_bound { j < 4 }
-    requires i_nonzero { i ≢ j }
+    requires differ { i ≢ j }
     ensures { Pooled left.new right.new result }
 {
     let first = bags[i];
@@ -95,7 +95,7 @@ pub fn divide(bags: [Bag; 4], i: usize, j: usize, left: &mut [u16], right: &mut 
     requires pooled { Pooled left.old right.old bags }
     requires i_bound { i < 4 }
     requires j_bound { j < 4 }
-    requires i_nonzero { i ≢ j }
+    requires differ { i ≢ j }
     ensures { Pooled left.new right.new result }
 {
     let whole = bags[i];

@@ -1,12 +1,14 @@
 // The C interface: reader, writer, search, checker and pages as functions that C can call, over
 // numbers and lists alone: the answers of reader and search, which are records, go into a lent list.
 // Each has the contract of the call that it wraps, and no `requires`.
+#![tactic(auto)]
+
 ghost use Rattle.std.specs.Prelude.{◌≡◌, ◌<◌};
 ghost use Rattle.graph.specs.Read.{outcome_of_read, read_exit};
 ghost use Rattle.graph.specs.Write.{outcome_of_write, write_exit};
 ghost use Rattle.model.specs.Call.{outcome_of_search};
 ghost use Rattle.search.specs.Promise.{search_exit, Kept};
-ghost use Rattle.search.specs.Promise.{lent_lists as search·lentLists};
+ghost use Rattle.search.specs.Promise.{lent_lists as search·lent_lists};
 ghost use Rattle.verify.specs.Check.{outcome_of_check};
 ghost use Rattle.verify.specs.Promise.{lent_lists, check_exit, Judged};
 ghost use Rattle.page.specs.Page.{outcome_of_page};
@@ -97,16 +99,16 @@ pub extern "C" fn hopmap_search(
     answer: &mut [u32; 4],
 ) -> usize
     ensures values_after { search_exit (answer_in answer.new)
-        (search·lentLists offsets.new targets.new marks.new distances.new
+        (search·lent_lists offsets.new targets.new marks.new distances.new
         parents.new census.new left.new right.new values.new)
         ≡ outcome_of_search file.now source workers schedule.now
-        (search·lentLists offsets.old targets.old marks.old distances.old
+        (search·lent_lists offsets.old targets.old marks.old distances.old
         parents.old census.old left.old right.old values.old) }
     ensures kept { Kept file.now source workers schedule.now
-        (search·lentLists offsets.old targets.old marks.old distances.old
+        (search·lent_lists offsets.old targets.old marks.old distances.old
         parents.old census.old left.old right.old values.old)
         (answer_in answer.new)
-        (search·lentLists offsets.new targets.new marks.new distances.new
+        (search·lent_lists offsets.new targets.new marks.new distances.new
         parents.new census.new left.new right.new values.new) }
     ensures value { result ≡ (answer_in answer.new).number }
 {

@@ -3,6 +3,8 @@
 // 01 with faults.
 //
 // Every read and write of a list is guarded, so that no function here requires anything.
+#![tactic(auto)]
+
 pub mod graphs;
 pub mod plans;
 pub mod queries;

@@ -5,7 +5,7 @@ use testkit::sample::after;
 use testkit::words::extra;
 
 // A graph's size, the source, and what it is drawn by.
-#[derive(Drop)]
+#[derive(Clone, Copy)]
 pub struct Plan {
     pub vertices: u16,
     pub edges: u16,

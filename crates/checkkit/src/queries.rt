@@ -4,7 +4,7 @@ use searchkit::requests::Lengths;
 
 // The source, n and m of the file, how much is lent of the file and of each list; and the number that
 // a check must answer.
-#[derive(Drop)]
+#[derive(Clone, Copy)]
 pub struct Query {
     pub source: usize,
     pub vertices: u16,

@@ -51,7 +51,7 @@ pub const DISTANCES: [u16; 6] = [0, 1, 1, 2, 65535, 0];
 pub const PARENTS: [u16; 6] = [0, 0, 0, 1, 0, 65535];
 
 // A case: what is asked, and a row of the table of labels.
-#[derive(Drop)]
+#[derive(Clone, Copy)]
 pub struct Case {
     pub query: Query,
     pub labels: u16,

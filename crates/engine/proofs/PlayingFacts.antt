@@ -21,7 +21,7 @@ use Rattle.pennant.specs.Held.{size, one}
 use Rattle.bag.specs.declared.Bag as declared
 use Rattle.bag.specs.Nodes.{held_by, past_bag}
 use Rattle.bag.specs.Promises.{Pooled, Moved, weigh_nodes, weigh_free}
-use Rattle.bag.proofs.Family.{moved-pool}
+use Rattle.bag.proofs.Family.{moved_pool}
 use Rattle.schedule.specs.Events.{event_of}
 use Rattle.schedule.specs.declared.Event.{Event}
 use Rattle.schedule.specs.declared.Event.TheVariants.{Malformed}
@@ -35,15 +35,15 @@ use Rattle.model.specs.Paths.{distance_of}
 use Rattle.model.specs.Words.{option_of}
 use Rattle.model.specs.Histogram.{recount}
 use Rattle.model.specs.Demand.{Accepted, Fitting}
-use Rattle.model.proofs.HistogramFacts.{recount-long}
+use Rattle.model.proofs.HistogramFacts.{recount_long}
 use Rattle.model.proofs.Theorem.{demand_holds}
-use Rattle.model.proofs.Used.{play-more}
+use Rattle.model.proofs.Used.{play_more}
 use Rattle.workers.specs.declared.Phase.{Phase}
 use Rattle.workers.specs.declared.Phase.TheVariants.{Free}
 use Rattle.workers.specs.Shown.{phase_of, workers_of, state_of}
 use Rattle.workers.specs.Steps.{InRows, held_of}
 use Rattle.workers.proofs.BagsFacts.{bags_of, Enough}
-use Rattle.workers.proofs.CrewFacts.{Even, crew-at}
+use Rattle.workers.proofs.CrewFacts.{Even, crew_at}
 
 -- what is there, or else the other
 unfoldable pub or_else : {A : Type 0} → Option A → A → A
@@ -60,9 +60,9 @@ pub record Given : Type 0 where
   pub offsets : List ℕ
   pub targets : List ℕ
   pub vertices : ℕ
-  pub left-long : ℕ
-  pub right-long : ℕ
-  pub values-long : ℕ
+  pub left_long : ℕ
+  pub right_long : ℕ
+  pub values_long : ℕ
 
 -- the graph
 abbrev pub graph : Given → Graph
@@ -72,10 +72,10 @@ graph g = rows_of g.offsets g.targets
 pub record Ready (g : Given) : Type 0 where
   pub rows : GraphRows g.offsets g.targets g.vertices
   pub accepted : Accepted (graph g) g.source g.workers g.schedule
-  pub few-events : length g.schedule ≤ max_events
-  pub nodes : g.left-long ≡ node_places g.vertices g.workers
-  pub wide : g.left-long ≤ g.right-long
-  pub numbered : g.left-long ≤ g.values-long
+  pub few_events : length g.schedule ≤ max_events
+  pub nodes : g.left_long ≡ node_places g.vertices g.workers
+  pub wide : g.left_long ≤ g.right_long
+  pub numbered : g.left_long ≤ g.values_long
 
 -- Before each byte.
 
@@ -86,13 +86,13 @@ crew g left right values inputs outputs phases =
 
 -- lists of the lengths given, and eight bags, eight bags, eight phases
 pub record Long (g : Given) (distances parents left right values : List ℕ) (inputs outputs : List declared.Bag) (phases : List Phase) : Type 0 where
-  pub distances-long : length distances ≡ g.vertices
-  pub parents-long : length parents ≡ g.vertices
-  pub left-long : length left ≡ g.left-long
-  pub right-long : length right ≡ g.right-long
-  pub values-long : length values ≡ g.values-long
+  pub distances_long : length distances ≡ g.vertices
+  pub parents_long : length parents ≡ g.vertices
+  pub left_long : length left ≡ g.left_long
+  pub right_long : length right ≡ g.right_long
+  pub values_long : length values ≡ g.values_long
   pub inputs_long : length inputs ≡ max_workers
-  pub outputs-long : length outputs ≡ max_workers
+  pub outputs_long : length outputs ≡ max_workers
   pub phases_long : length phases ≡ max_workers
 
 -- the engine's values before a byte are those of the model's run over the bytes so far, and its lists are in order
@@ -127,93 +127,93 @@ module _ {g : Given} {distances parents histogram left right values : List ℕ} 
     abbrev pub P : ℕ
     P = g.workers
 
-    pub some-worker : 1 ≤ P
-    some-worker = at.ready.accepted.some-worker
+    pub some_worker : 1 ≤ P
+    some_worker = at.ready.accepted.some_worker
 
-    pub few-workers : P ≤ max_workers
-    few-workers = at.ready.accepted.few-workers
+    pub few_workers : P ≤ max_workers
+    few_workers = at.ready.accepted.few_workers
 
     -- a worker that is there is one of eight
     pub placed : {w : ℕ} → w < P → w < 8
-    placed here = omega (arith, few-workers)
+    placed here = omega (arith, few_workers)
 
     -- the model's state
-    abbrev pub now-state : model.State
-    now-state = state_of distances parents (crew g left right values inputs outputs phases) layer
+    abbrev pub now_state : model.State
+    now_state = state_of distances parents (crew g left right values inputs outputs phases) layer
 
     -- as many bags
     pub enough : Enough P inputs outputs
     enough = record {
-      inputs-there = omega (arith, few-workers, at.long.inputs_long);
-      outputs-there = omega (arith, few-workers, at.long.outputs-long);
+      inputs_there = omega (arith, few_workers, at.long.inputs_long);
+      outputs_there = omega (arith, few_workers, at.long.outputs_long);
     }
 
     -- and phases
     pub phases_there : P ≤ length phases
-    phases_there = omega (arith, few-workers, at.long.phases_long)
+    phases_there = omega (arith, few_workers, at.long.phases_long)
 
     -- what they stand for
-    abbrev pub held-inputs : List Bag
-    held-inputs = map (held_by left right values) (take P inputs)
+    abbrev pub held_inputs : List Bag
+    held_inputs = map (held_by left right values) (take P inputs)
 
-    abbrev pub held-outputs : List Bag
-    held-outputs = map (held_by left right values) (take P outputs)
+    abbrev pub held_outputs : List Bag
+    held_outputs = map (held_by left right values) (take P outputs)
 
     abbrev pub shown_phases : List model.Phase
     shown_phases = map (phase_of g.offsets) (take P phases)
 
     -- of each as many
-    pub even : Even P held-inputs held-outputs shown_phases
+    pub even : Even P held_inputs held_outputs shown_phases
     even = record {
-      inputs_long = length-map (take P inputs) (held_by left right values) ∙ length-take-le P inputs enough.inputs-there;
-      outputs-long = length-map (take P outputs) (held_by left right values) ∙ length-take-le P outputs enough.outputs-there;
+      inputs_long = length-map (take P inputs) (held_by left right values) ∙ length-take-le P inputs enough.inputs_there;
+      outputs_long = length-map (take P outputs) (held_by left right values) ∙ length-take-le P outputs enough.outputs_there;
       phases_long = length-map (take P phases) (phase_of g.offsets) ∙ length-take-le P phases phases_there;
     }
 
     -- one of each
     module _ (w : ℕ) (here : w < P) where
-      pub input-shown : get_or held-inputs w empty_bag ≡ held_by left right values (get_or inputs w past_bag)
-      input-shown =
-          map_at (held_by left right values) (take P inputs) w past_bag empty_bag (omega (arith, length-take-le P inputs enough.inputs-there))
+      pub input_shown : get_or held_inputs w empty_bag ≡ held_by left right values (get_or inputs w past_bag)
+      input_shown =
+          map_at (held_by left right values) (take P inputs) w past_bag empty_bag (omega (arith, length-take-le P inputs enough.inputs_there))
           ∙ ap (held_by left right values) (get_or-take P inputs w past_bag here)
 
-      pub output-shown : get_or held-outputs w empty_bag ≡ held_by left right values (get_or outputs w past_bag)
-      output-shown =
-          map_at (held_by left right values) (take P outputs) w past_bag empty_bag (omega (arith, length-take-le P outputs enough.outputs-there))
+      pub output_shown : get_or held_outputs w empty_bag ≡ held_by left right values (get_or outputs w past_bag)
+      output_shown =
+          map_at (held_by left right values) (take P outputs) w past_bag empty_bag (omega (arith, length-take-le P outputs enough.outputs_there))
           ∙ ap (held_by left right values) (get_or-take P outputs w past_bag here)
 
-      pub phase-shown : get_or shown_phases w model.free ≡ phase_of g.offsets (get_or phases w Free)
-      phase-shown =
+      pub phase_shown : get_or shown_phases w model.free ≡ phase_of g.offsets (get_or phases w Free)
+      phase_shown =
           map_at (phase_of g.offsets) (take P phases) w Free model.free (omega (arith, length-take-le P phases phases_there))
           ∙ ap (phase_of g.offsets) (get_or-take P phases w Free here)
 
       -- the worker
-      pub worker-shown : model.worker_at (crew g left right values inputs outputs phases) w
+      pub worker_shown : model.worker_at (crew g left right values inputs outputs phases) w
           ≡ model.worker_with (held_by left right values (get_or inputs w past_bag)) (held_by left right values (get_or outputs w past_bag))
           (phase_of g.offsets (get_or phases w Free))
-      worker-shown = rw (← input-shown, ← output-shown, ← phase-shown) (crew-at held-inputs held-outputs shown_phases w even)
+      worker_shown = rw (← input_shown, ← output_shown, ← phase_shown) (crew_at held_inputs held_outputs shown_phases w even)
 
     -- the state fits the engine's lists
-    pub now-fits : Fitting (graph g) P now-state
+    pub now_fits : Fitting (graph g) P now_state
     unfolding state_at
-    now-fits = subst (λ (r : Run). Fitting (graph g) P r.state) at.same ((demand_holds at.ready.accepted).fitting used)
+    now_fits = subst (λ (r : Run). Fitting (graph g) P r.state) at.same ((demand_holds at.ready.accepted).fitting used)
 
     -- there are n counts
-    pub counts-long : length histogram ≡ g.vertices
-    counts-long = ap length at.recounted ∙ recount-long (map option_of distances) ∙ length-map distances option_of ∙ at.long.distances-long
+    pub counts_long : length histogram ≡ g.vertices
+    counts_long = ap length at.recounted ∙ recount_long (map option_of distances) ∙ length-map distances option_of ∙ at.long.distances_long
 
     -- the layer is below n
-    pub layer-low : layer < g.vertices
+    pub layer_low : layer < g.vertices
     unfolding state_of
-    layer-low = omega (arith, now-fits.layer_below, at.ready.rows.count)
+    layer_low = omega (arith, now_fits.layer_below, at.ready.rows.count)
 
     -- the next one fits 16 bits
     pub layer_fits : layer + 1 < 65536
-    layer_fits = omega (arith, layer-low, at.ready.rows.few-vertices)
+    layer_fits = omega (arith, layer_low, at.ready.rows.few-vertices)
 
     -- a byte more is counted in a word
-    pub used-fits : used < length g.schedule → used + 1 < 18446744073709551616
-    used-fits below = omega (arith, at.ready.few-events)
+    pub used_fits : used < length g.schedule → used + 1 < 18446744073709551616
+    used_fits below = omega (arith, at.ready.few_events)
 
   module _ {e : Event} (turn : Turn g distances parents histogram left right values inputs outputs phases pending found used effective layer e) where
     -- what holds before the byte
@@ -222,54 +222,54 @@ module _ {g : Given} {distances parents histogram left right values : List ℕ} 
 
     -- the run so far
     abbrev run : Run
-    run = record { state = now-state at; used = used; effective = effective }
+    run = record { state = now_state at; used = used; effective = effective }
 
     -- one byte more
-    step_run : play (graph g) g.source g.workers (take (used + 1) g.schedule) ≡ tally run (act (graph g) (now-state at) e)
+    step_run : play (graph g) g.source g.workers (take (used + 1) g.schedule) ≡ tally run (act (graph g) (now_state at) e)
     unfolding step state_of
     step_run =
         ap (λ (k : ℕ). play (graph g) g.source g.workers (take k g.schedule)) (add-one used)
-        ∙ play-more (graph g) g.source g.workers g.schedule used turn.below
+        ∙ play_more (graph g) g.source g.workers g.schedule used turn.below
         ∙ ap (λ (r : Run). step (graph g) r (get_or g.schedule used 0)) at.same
-        ∙ ap (λ (x : Event). tally run (act (graph g) (now-state at) x)) turn.event
+        ∙ ap (λ (x : Event). tally run (act (graph g) (now_state at) x)) turn.event
 
     -- the state after it, and whether it counts
-    pub next-run : play (graph g) g.source g.workers (take (used + 1) g.schedule)
+    pub next_run : play (graph g) g.source g.workers (take (used + 1) g.schedule)
         ≡ record {
-          state = or_else (act (graph g) (now-state at) e) (now-state at);
+          state = or_else (act (graph g) (now_state at) e) (now_state at);
           used = used + 1;
-          effective = effective + some_one (act (graph g) (now-state at) e);
+          effective = effective + some_one (act (graph g) (now_state at) e);
         }
     unfolding tally or_else
-    next-run = step_run ∙ tallied (act (graph g) (now-state at) e)
+    next_run = step_run ∙ tallied (act (graph g) (now_state at) e)
       where
         tallied : (o : Option model.State)
-            → tally run o ≡ record { state = or_else o (now-state at); used = used + 1; effective = effective + some_one o }
-        tallied none = ap₂ (λ (k j : ℕ). record { state = now-state at; used = k; effective = j }) (sym (add-one used)) (sym (add-zero effective))
+            → tally run o ≡ record { state = or_else o (now_state at); used = used + 1; effective = effective + some_one o }
+        tallied none = ap₂ (λ (k j : ℕ). record { state = now_state at; used = k; effective = j }) (sym (add-one used)) (sym (add-zero effective))
         tallied (some s) = ap₂ (λ (k j : ℕ). record { state = s; used = k; effective = j }) (sym (add-one used)) (sym (add-one effective))
 
     -- it leaves a state that fits
-    pub next_fits : Fitting (graph g) g.workers (or_else (act (graph g) (now-state at) e) (now-state at))
+    pub next_fits : Fitting (graph g) g.workers (or_else (act (graph g) (now_state at) e) (now_state at))
     unfolding state_at
-    next_fits = subst (λ (r : Run). Fitting (graph g) g.workers r.state) next-run ((demand_holds at.ready.accepted).fitting (used + 1))
+    next_fits = subst (λ (r : Run). Fitting (graph g) g.workers r.state) next_run ((demand_holds at.ready.accepted).fitting (used + 1))
 
     -- and keeps every distance that is set
-    pub next-stays : (v k : ℕ) → distance_of (now-state at).labels v ≡ some k
-        → distance_of (or_else (act (graph g) (now-state at) e) (now-state at)).labels v ≡ some k
+    pub next_stays : (v k : ℕ) → distance_of (now_state at).labels v ≡ some k
+        → distance_of (or_else (act (graph g) (now_state at) e) (now_state at)).labels v ≡ some k
     unfolding state_at
-    next-stays v k set =
+    next_stays v k set =
         let Same : Run → Type 0 = λ r. distance_of r.state.labels v ≡ some k in
         let after = (demand_holds at.ready.accepted).stays used v k turn.below (subst Same (sym at.same) set) in
-        subst Same (sym step-again ∙ next-run) after
+        subst Same (sym step_again ∙ next_run) after
       where
         -- the same number of bytes
-        step-again : play (graph g) g.source g.workers (take (used + 1) g.schedule)
+        step_again : play (graph g) g.source g.workers (take (used + 1) g.schedule)
             ≡ play (graph g) g.source g.workers (take (suc used) g.schedule)
-        step-again = ap (λ (k : ℕ). play (graph g) g.source g.workers (take k g.schedule)) (add-one used)
+        step_again = ap (λ (k : ℕ). play (graph g) g.source g.workers (take k g.schedule)) (add-one used)
 
     -- it is counted in a word if it is effective
-    pub effective-fits : effective + 1 < 18446744073709551616
-    effective-fits = omega (arith, at.ready.few-events, turn.below, at.counted)
+    pub effective_fits : effective + 1 < 18446744073709551616
+    effective_fits = omega (arith, at.ready.few_events, turn.below, at.counted)
 
     -- its workers are there
     pub staffed : Staffed g.workers e
@@ -285,7 +285,7 @@ module _ {g : Given} {distances parents histogram left right values : List ℕ} 
         → ((w : ℕ) → w < g.workers → InRows g.offsets g.vertices (get_or phases' w Free))
         → pending' ≡ sum_of size (map (held_by left' right' values') (take g.workers inputs')) + sum_of held_of (take g.workers phases')
         → found' ≡ sum_of size (map (held_by left' right' values') (take g.workers outputs'))
-        → act (graph g) (now-state at) e ≡ some after
+        → act (graph g) (now_state at) e ≡ some after
         → state_of distances' parents' (crew g left' right' values' inputs' outputs' phases') layer' ≡ after
         → Going g distances' parents' histogram' left' right' values' inputs' outputs' phases' pending' found' (used + 1) (effective + 1) layer'
     unfolding or_else
@@ -293,9 +293,9 @@ module _ {g : Given} {distances parents histogram left right values : List ℕ} 
       ready = at.ready;
       long = long;
       within = omega (arith, turn.below);
-      same = next-run ∙ rw (made, same) refl;
+      same = next_run ∙ rw (made, same) refl;
       counted = omega (arith, at.counted);
-      pool = moved-pool at.pool moved;
+      pool = moved_pool at.pool moved;
       whole = moved.nodes one ∙ at.whole;
       in_rows = in_rows;
       recounted = recounted;
@@ -304,14 +304,14 @@ module _ {g : Given} {distances parents histogram left right values : List ℕ} 
     }
 
     -- after one whose condition isn't met it is where it was
-    pub unmet_on : act (graph g) (now-state at) e ≡ none
+    pub unmet_on : act (graph g) (now_state at) e ≡ none
         → Going g distances parents histogram left right values inputs outputs phases pending found (used + 1) effective layer
     unfolding or_else
     unmet_on unmet = record {
       ready = at.ready;
       long = at.long;
       within = omega (arith, turn.below);
-      same = next-run ∙ rw unmet (ap (λ (k : ℕ). record { state = now-state at; used = used + 1; effective = k }) (add-zero effective));
+      same = next_run ∙ rw unmet (ap (λ (k : ℕ). record { state = now_state at; used = used + 1; effective = k }) (add-zero effective));
       counted = omega (arith, at.counted);
       pool = at.pool;
       whole = at.whole;
@@ -335,5 +335,5 @@ pub turn_of : {g : Given} {distances parents histogram left right values : List 
 turn_of going below decoded told = record { going = going; below = below; event = sym decoded ∙ told }
 
 -- a place of eight, as bytes of so many each
-pub place-fits : {w : ℕ} (k : ℕ) → w < 8 → k ≤ 4096 → Fits w64 (w * k)
-place-fits k here few = record { fits = omega (arith, mul-le-mul (le-pred_of_lt here) few) }
+pub place_fits : {w : ℕ} (k : ℕ) → w < 8 → k ≤ 4096 → Fits w64 (w * k)
+place_fits k here few = record { fits = omega (arith, mul-le-mul (le-pred_of_lt here) few) }

@@ -1,7 +1,6 @@
 -- A worker's move in a run: what its steps take for granted holds, and after it the engine is where the model is.
 use mathlib.Core.Path.{◌≡◌, refl, sym, ap, ◌∙◌}
 use mathlib.Core.Bool.{Bool, true, false}
-use mathlib.Core.Logic.{◌⊎◌}
 use mathlib.Core.List.{List, [], ◌∷◌, map, map-append}
 use mathlib.Core.Option.{none, some, some-injective}
 use Prim.Native.Nat.{ℕ, suc, ◌+◌, ◌-◌, ◌*◌, ◌≤◌, ◌<◌}
@@ -11,18 +10,18 @@ use native.Mathlib.Omega.{arith}
 use lib.ListN.{length, get_or, set, take, length-set, length-map}
 use lib.Seq.{take-set-lt, set-get_or, get_or-set_same}
 use Rattle.lists.specs.Lists.{sum_of}
-use Rattle.lists.proofs.Sums.{sum-set, sum-at, sum_append}
-use Rattle.lists.proofs.Replaced.{map-set, set-each}
+use Rattle.lists.proofs.Sums.{sum_set, sum_at, sum_append}
+use Rattle.lists.proofs.Replaced.{map_set, set_each}
 use Rattle.graph.specs.Steps.{GraphRows}
-use Rattle.graph.proofs.GraphRowsFacts.{offsets-long}
+use Rattle.graph.proofs.GraphRowsFacts.{offsets_long}
 use Rattle.pennant.specs.Bag.{Bag, empty_bag, is_empty, taken_number, bag_insert}
 use Rattle.pennant.specs.Held.{size, one, copies}
-use Rattle.pennant.proofs.Laws.{taken-held, weigh_empty, weigh_insert, weigh-rest}
+use Rattle.pennant.proofs.Laws.{taken_held, weigh_empty, weigh_insert, weigh_rest}
 use Rattle.bag.specs.declared.Bag as declared
 use Rattle.bag.specs.Nodes.{held_by, past_bag}
 use Rattle.bag.specs.Promises.{Pooled, Inserted}
-use Rattle.bag.proofs.Family.{same-moved}
-use Rattle.bag.proofs.HeldFacts.{held-shaped, family_room}
+use Rattle.bag.proofs.Family.{same_moved}
+use Rattle.bag.proofs.HeldFacts.{held_shaped, family_room}
 use Rattle.schedule.specs.declared.Event.TheVariants.{Work}
 use Rattle.model.specs.State as model
 use Rattle.model.specs.Table.{hold_at, mark, move, after_move, moved_state, act}
@@ -34,13 +33,13 @@ use Rattle.workers.specs.declared.Phase.TheVariants.{Free, Holding, InHand, Mark
 use Rattle.workers.specs.Shown.{phase_of, state_of}
 use Rattle.workers.specs.Steps.{EdgeOf, InRows, hold_from, Between, Countable, counts_after, Advanced, BegunFrom, held_of}
 use Rattle.workers.proofs.RowFacts.{edge_small, fits_as}
-use Rattle.workers.proofs.MoveFacts.{Moves, rest-none, begun_moves, stowed-moves, advanced-moves, between-others, not-between}
-use Rattle.workers.proofs.CountFacts.{Markable, counts-recount, countable_now}
-use Rattle.workers.proofs.CrewFacts.{crew-long, crew-set, crew_loads}
-use Rattle.workers.proofs.BagsFacts.{bags_of, BagsAfter, input_pooled, output_pooled, input-after, output-after}
+use Rattle.workers.proofs.MoveFacts.{Moves, rest_none, begun_moves, stowed_moves, advanced_moves, between_others, not_between}
+use Rattle.workers.proofs.CountFacts.{Markable, counts_recount, countable_now}
+use Rattle.workers.proofs.CrewFacts.{crew_long, crew_set, crew_loads}
+use Rattle.workers.proofs.BagsFacts.{bags_of, BagsAfter, input_pooled, output_pooled, input_after, output-after}
 use Rattle.workers.proofs.IdleFacts.{held_one, busy_set, busy_some}
-use Rattle.engine.proofs.PlayingFacts.{Given, graph, crew, Long, Going, Turn, placed, now-state, enough, phases_there, even, held-inputs, held-outputs, shown_phases}
-use Rattle.engine.proofs.PlayingFacts.{input-shown, output-shown, worker-shown, now-fits, layer-low, layer_fits, next_fits, next-stays, staffed, or_else, play_on, unmet_on}
+use Rattle.engine.proofs.PlayingFacts.{Given, graph, crew, Long, Going, Turn, placed, now_state, enough, phases_there, even, held_inputs, held_outputs, shown_phases}
+use Rattle.engine.proofs.PlayingFacts.{input_shown, output_shown, worker_shown, now_fits, layer_low, layer_fits, next_fits, next_stays, staffed, or_else, play_on, unmet_on}
 
 module _ {g : Given} {distances parents histogram left right values : List ℕ} {inputs outputs : List declared.Bag} {phases : List Phase} {pending found used effective layer w : ℕ}
     (turn : Turn g distances parents histogram left right values inputs outputs phases pending found used effective layer (Work w)) where
@@ -53,8 +52,8 @@ module _ {g : Given} {distances parents histogram left right values : List ℕ} 
   here = staffed turn
 
   -- one of eight
-  pub work-place : w < 8
-  work-place = placed at here
+  pub work_place : w < 8
+  work_place = placed at here
 
   -- its bags and its phase
   abbrev input : declared.Bag
@@ -67,52 +66,52 @@ module _ {g : Given} {distances parents histogram left right values : List ℕ} 
   phase = get_or phases w Free
 
   -- what the bags hold
-  abbrev held-input : Bag
-  held-input = held_by left right values input
+  abbrev held_input : Bag
+  held_input = held_by left right values input
 
-  abbrev held-output : Bag
-  held-output = held_by left right values output
+  abbrev held_output : Bag
+  held_output = held_by left right values output
 
   -- its phase is at an edge
   in_row : InRows g.offsets g.vertices phase
   in_row = at.in_rows w here
 
   -- the event by its move
-  work-act : act (graph g) (now-state at) (Work w)
-      ≡ after_move (now-state at) w (move (graph g) layer (labels_of distances parents) held-input held-output (phase_of g.offsets phase))
+  work_act : act (graph g) (now_state at) (Work w)
+      ≡ after_move (now_state at) w (move (graph g) layer (labels_of distances parents) held_input held_output (phase_of g.offsets phase))
   unfolding act state_of
-  work-act =
-      ap (λ (x : model.Worker). after_move (now-state at) w (move (graph g) layer (labels_of distances parents) x.input x.output x.phase)) (worker-shown at w here)
+  work_act =
+      ap (λ (x : model.Worker). after_move (now_state at) w (move (graph g) layer (labels_of distances parents) x.input x.output x.phase)) (worker_shown at w here)
 
   -- Taking.
 
   -- what a test for an empty input bag told
-  pub input-told : {empty : Bool} → ((left right values : List ℕ) → Pooled left right (input ∷ []) → empty ≡ is_empty (held_by left right values input))
-      → is_empty held-input ≡ empty
-  input-told told = sym (told left right values (input_pooled (enough at) at.pool w here))
+  pub input_told : {empty : Bool} → ((left right values : List ℕ) → Pooled left right (input ∷ []) → empty ≡ is_empty (held_by left right values input))
+      → is_empty held_input ≡ empty
+  input_told told = sym (told left right values (input_pooled (enough at) at.pool w here))
 
   -- a free worker with nothing in its bag stays as it is
-  pub rest_on : phase ≡ Free → is_empty held-input ≡ true → Going g distances parents histogram left right values inputs outputs phases pending found (used + 1) effective layer
+  pub rest_on : phase ≡ Free → is_empty held_input ≡ true → Going g distances parents histogram left right values inputs outputs phases pending found (used + 1) effective layer
   unfolding after_move
   rest_on free empty =
       unmet_on turn
-      (work-act ∙ ap (after_move (now-state at) w) (rest-none (graph g) layer (labels_of distances parents) g.offsets held-input held-output phase free empty))
+      (work_act ∙ ap (after_move (now_state at) w) (rest_none (graph g) layer (labels_of distances parents) g.offsets held_input held_output phase free empty))
 
   -- the numbers in its input bag are vertices
-  input-below : (v : ℕ) → 1 ≤ copies v held-input → v < g.vertices
+  input_below : (v : ℕ) → 1 ≤ copies v held_input → v < g.vertices
   unfolding state_of
-  input-below v h =
-      omega (arith, at.ready.rows.count, (now-fits at).inputs-below w v (rw (ap {B = Bag} (λ (x : model.Worker). x.input) (worker-shown at w here)) h))
+  input_below v h =
+      omega (arith, at.ready.rows.count, (now_fits at).inputs_below w v (rw (ap {B = Bag} (λ (x : model.Worker). x.input) (worker_shown at w here)) h))
 
   -- what `begin` takes for granted
-  pub begin_able : is_empty held-input ≡ false
+  pub begin_able : is_empty held_input ≡ false
       → Pooled left right (input ∷ [])
-      × ((length left ≤ length values) × ((is_empty held-input ≡ false) × ((v : ℕ) → 1 ≤ copies v held-input → v + 1 < length g.offsets)))
+      × ((length left ≤ length values) × ((is_empty held_input ≡ false) × ((v : ℕ) → 1 ≤ copies v held_input → v + 1 < length g.offsets)))
   begin_able filled = (
     input_pooled (enough at) at.pool w here,
     (
-      omega (arith, at.ready.numbered, at.long.left-long, at.long.values-long),
-      (filled, λ v h. omega (arith, input-below v h, offsets-long at.ready.rows)),
+      omega (arith, at.ready.numbered, at.long.left_long, at.long.values_long),
+      (filled, λ v h. omega (arith, input_below v h, offsets_long at.ready.rows)),
     ),
   )
 
@@ -125,23 +124,23 @@ module _ {g : Given} {distances parents histogram left right values : List ℕ} 
     pub stored : phases' ≡ set phases w next
     pub input' : Bag
     pub output' : Bag
-    pub moves : Moves g.offsets g.targets layer distances parents held-input held-output phase distances' parents' input' output' next
+    pub moves : Moves g.offsets g.targets layer distances parents held_input held_output phase distances' parents' input' output' next
     pub bags : BagsAfter g.workers inputs outputs left right left' right' values' inputs' outputs'
-        (set (held-inputs at) w input') (set (held-outputs at) w output')
+        (set (held_inputs at) w input') (set (held_outputs at) w output')
     pub long : Long g distances' parents' left' right' values' inputs' outputs' phases
     -- the counts are a recount of the distances
     pub recounted : histogram' ≡ recount (map option_of distances')
     -- the vertex that it takes or holds is one of those pending
-    pub taken : size input' + 1 ≡ size held-input + held_of phase
+    pub taken : size input' + 1 ≡ size held_input + held_of phase
     -- so many more are in its output bag
-    pub found-more : found' + size held-output ≡ found + size output'
+    pub found_more : found' + size held_output ≡ found + size output'
 
   -- worker w among those there are
-  inputs-inside : w < length (held-inputs at)
-  inputs-inside = omega (arith, (even at).inputs_long, here)
+  inputs_inside : w < length (held_inputs at)
+  inputs_inside = omega (arith, (even at).inputs_long, here)
 
-  outputs-inside : w < length (held-outputs at)
-  outputs-inside = omega (arith, (even at).outputs-long, here)
+  outputs_inside : w < length (held_outputs at)
+  outputs_inside = omega (arith, (even at).outputs_long, here)
 
   -- so some vertex is pending
   pub some_pending : {distances' parents' histogram' left' right' values' : List ℕ} {inputs' outputs' : List declared.Bag} {phases' : List Phase} {found' : ℕ}
@@ -151,8 +150,8 @@ module _ {g : Given} {distances parents histogram left right values : List ℕ} 
         arith,
         at.waiting,
         worked.taken,
-        sum-at size (held-inputs at) w empty_bag (weigh_empty one),
-        ap size (input-shown at w here),
+        sum_at size (held_inputs at) w empty_bag (weigh_empty one),
+        ap size (input_shown at w here),
         busy_some phases g.workers (phases_there at) w here,
       )
 
@@ -166,19 +165,19 @@ module _ {g : Given} {distances parents histogram left right values : List ℕ} 
       rw worked.stored
       (play_on turn
       (record {
-        distances-long = worked.long.distances-long;
-        parents-long = worked.long.parents-long;
-        left-long = worked.long.left-long;
-        right-long = worked.long.right-long;
-        values-long = worked.long.values-long;
+        distances_long = worked.long.distances_long;
+        parents_long = worked.long.parents_long;
+        left_long = worked.long.left_long;
+        right_long = worked.long.right_long;
+        values_long = worked.long.values_long;
         inputs_long = worked.long.inputs_long;
-        outputs-long = worked.long.outputs-long;
+        outputs_long = worked.long.outputs_long;
         phases_long = length-set phases w next ∙ at.long.phases_long;
       })
       worked.recounted
       worked.bags.moved
-      (set-each (InRows g.offsets g.vertices) (λ j. j < g.workers) phases w next Free
-      (rw at.long.distances-long at worked.moves.in_rows) at.in_rows)
+      (set_each (InRows g.offsets g.vertices) (λ j. j < g.workers) phases w next Free
+      (rw at.long.distances_long at worked.moves.in_rows) at.in_rows)
       (omega (
         arith,
         at.waiting,
@@ -186,20 +185,20 @@ module _ {g : Given} {distances parents histogram left right values : List ℕ} 
         ap held_of (ap (λ (l : List Phase). get_or l w Free) worked.stored ∙ get_or-set_same phases w next Free inside),
         worked.taken,
         some_pending worked,
-        ap (sum_of size) worked.bags.inputs-held,
-        sum-set size (held-inputs at) w worked.input' empty_bag inputs-inside,
-        ap size (input-shown at w here),
+        ap (sum_of size) worked.bags.inputs_held,
+        sum_set size (held_inputs at) w worked.input' empty_bag inputs_inside,
+        ap size (input_shown at w here),
         busy_set phases g.workers (phases_there at) w here next,
       ))
       (omega (
         arith,
         at.stowed,
-        worked.found-more,
-        ap (sum_of size) worked.bags.outputs-held,
-        sum-set size (held-outputs at) w worked.output' empty_bag outputs-inside,
-        ap size (output-shown at w here),
+        worked.found_more,
+        ap (sum_of size) worked.bags.outputs_held,
+        sum_set size (held_outputs at) w worked.output' empty_bag outputs_inside,
+        ap size (output_shown at w here),
       ))
-      made (ap (λ (ws : List model.Worker). record { labels = labels_of distances' parents'; workers = ws; layer = layer; finished = false }) crew-after))
+      made (ap (λ (ws : List model.Worker). record { labels = labels_of distances' parents'; workers = ws; layer = layer; finished = false }) crew_after))
     where
       -- its phase is one of those there are
       inside : w < length phases
@@ -209,78 +208,78 @@ module _ {g : Given} {distances parents histogram left right values : List ℕ} 
       after : model.Worker
       after = model.worker_with worked.input' worked.output' (phase_of g.offsets worked.next)
 
-      made : act (graph g) (now-state at) (Work w) ≡ some (moved_state (now-state at) w (after, labels_of distances' parents'))
-      made = work-act ∙ ap (after_move (now-state at) w) worked.moves.made
+      made : act (graph g) (now_state at) (Work w) ≡ some (moved_state (now_state at) w (after, labels_of distances' parents'))
+      made = work_act ∙ ap (after_move (now_state at) w) worked.moves.made
 
-      crew-after : crew g left' right' values' inputs' outputs' (set phases w worked.next) ≡ set (crew g left right values inputs outputs phases) w after
-      crew-after =
+      crew_after : crew g left' right' values' inputs' outputs' (set phases w worked.next) ≡ set (crew g left right values inputs outputs phases) w after
+      crew_after =
           rw (
-            worked.bags.inputs-held,
-            worked.bags.outputs-held,
+            worked.bags.inputs_held,
+            worked.bags.outputs_held,
             take-set-lt g.workers phases w worked.next here,
-            map-set (phase_of g.offsets) (take g.workers phases) w worked.next,
+            map_set (phase_of g.offsets) (take g.workers phases) w worked.next,
           )
-          (crew-set (held-inputs at) (held-outputs at) (shown_phases at) w worked.input' worked.output' (phase_of g.offsets worked.next))
+          (crew_set (held_inputs at) (held_outputs at) (shown_phases at) w worked.input' worked.output' (phase_of g.offsets worked.next))
 
   -- bags that stay as they are, as one of them is put back
-  input_back : set (held-inputs at) w held-input ≡ held-inputs at
-  input_back = ap (set (held-inputs at) w) (sym (input-shown at w here)) ∙ set-get_or (held-inputs at) w empty_bag
+  input_back : set (held_inputs at) w held_input ≡ held_inputs at
+  input_back = ap (set (held_inputs at) w) (sym (input_shown at w here)) ∙ set-get_or (held_inputs at) w empty_bag
 
-  output_back : set (held-outputs at) w held-output ≡ held-outputs at
-  output_back = ap (set (held-outputs at) w) (sym (output-shown at w here)) ∙ set-get_or (held-outputs at) w empty_bag
+  output_back : set (held_outputs at) w held_output ≡ held_outputs at
+  output_back = ap (set (held_outputs at) w) (sym (output_shown at w here)) ∙ set-get_or (held_outputs at) w empty_bag
 
   -- a phase that is free counts for nothing
-  free-none : held_of Free ≡ 0
+  free_none : held_of Free ≡ 0
   unfolding held_of
-  free-none = refl
+  free_none = refl
 
   -- `begin`
-  pub begun_worked : phase ≡ Free → is_empty held-input ≡ false → {left' : List ℕ} {rest : declared.Bag} {next : Phase}
+  pub begun_worked : phase ≡ Free → is_empty held_input ≡ false → {left' : List ℕ} {rest : declared.Bag} {next : Phase}
       → BegunFrom input g.offsets left right values left' rest next
       → Worked distances parents histogram left' right values (set inputs w rest) outputs (set phases w next) found
   begun_worked free filled {left'} {rest} {next} begun = record {
     next = next;
     stored = refl;
     input' = held_by left' right values rest;
-    output' = held-output;
-    moves = begun_moves distances parents layer ground held-output free filled
-        (rw at.long.distances-long (input-below (taken_number held-input) (taken-held held-input filled))) begun;
-    bags = rw output_back (input-after (enough at) at.pool w here values values begun.taken.moved (λ x h c. refl));
+    output' = held_output;
+    moves = begun_moves distances parents layer ground held_output free filled
+        (rw at.long.distances_long (input_below (taken_number held_input) (taken_held held_input filled))) begun;
+    bags = rw output_back (input_after (enough at) at.pool w here values values begun.taken.moved (λ x h c. refl));
     long = record {
-      distances-long = at.long.distances-long;
-      parents-long = at.long.parents-long;
-      left-long = begun.taken.moved.left-length ∙ at.long.left-long;
-      right-long = at.long.right-long;
-      values-long = at.long.values-long;
+      distances_long = at.long.distances_long;
+      parents_long = at.long.parents_long;
+      left_long = begun.taken.moved.left_length ∙ at.long.left_long;
+      right_long = at.long.right_long;
+      values_long = at.long.values_long;
       inputs_long = length-set inputs w rest ∙ at.long.inputs_long;
-      outputs-long = at.long.outputs-long;
+      outputs_long = at.long.outputs_long;
       phases_long = at.long.phases_long;
     };
     recounted = at.recounted;
-    taken = omega (arith, ap held_of free, free-none, ap size begun.taken.held, weigh-rest one held-input (held-shaped left right values input) filled);
-    found-more = refl;
+    taken = omega (arith, ap held_of free, free_none, ap size begun.taken.held, weigh_rest one held_input (held_shaped left right values input) filled);
+    found_more = refl;
   }
     where
       ground : GraphRows g.offsets g.targets (length distances)
-      ground = rw at.long.distances-long at.ready.rows
+      ground = rw at.long.distances_long at.ready.rows
 
   -- Stowing.
 
   module _ {u e f t : ℕ} (named : phase ≡ Named u e f t) where
     -- its edge is one of its vertex
-    named-edge : EdgeOf g.offsets g.vertices u e f
-    named-edge = (fits_as g.offsets g.vertices named in_row).0
+    named_edge : EdgeOf g.offsets g.vertices u e f
+    named_edge = (fits_as g.offsets g.vertices named in_row).0
 
     -- the worker after it has stowed
     stowed : model.Worker
-    stowed = model.worker_with held-input (bag_insert t held-output) (hold_at (graph g) u (suc (e - get_or g.offsets u 0)))
+    stowed = model.worker_with held_input (bag_insert t held_output) (hold_at (graph g) u (suc (e - get_or g.offsets u 0)))
 
     -- the table has this move for it
-    stow_act : act (graph g) (now-state at) (Work w) ≡ some (moved_state (now-state at) w (stowed, labels_of distances parents))
+    stow_act : act (graph g) (now_state at) (Work w) ≡ some (moved_state (now_state at) w (stowed, labels_of distances parents))
     unfolding after_move move phase_of stowed
     stow_act =
-        work-act
-        ∙ ap (λ (p : Phase). after_move (now-state at) w (move (graph g) layer (labels_of distances parents) held-input held-output (phase_of g.offsets p))) named
+        work_act
+        ∙ ap (λ (p : Phase). after_move (now_state at) w (move (graph g) layer (labels_of distances parents) held_input held_output (phase_of g.offsets p))) named
 
     -- all workers hold one number more then
     stow_held : held (crew g left right values inputs outputs phases) + 1 ≤ g.workers * length (graph g)
@@ -288,10 +287,10 @@ module _ {g : Given} {distances parents histogram left right values : List ℕ} 
     stow_held =
         let load : model.Worker → ℕ = λ y. size y.input + size y.output in
         let ws = crew g left right values inputs outputs phases in
-        let inside : w < length ws = rw (crew-long (held-inputs at) (held-outputs at) (shown_phases at) (even at)) here in
+        let inside : w < length ws = rw (crew_long (held_inputs at) (held_outputs at) (shown_phases at) (even at)) here in
         let few : sum_of load (set ws w stowed) ≤ g.workers * length (graph g) = rw stow_act at (next_fits turn).all_held in
-        let before : load (model.worker_at ws w) ≡ size held-input + size held-output = ap load (worker-shown at w here) in
-        omega (arith, sum-set load ws w stowed model.idle_worker inside, weigh_insert one t held-output)
+        let before : load (model.worker_at ws w) ≡ size held_input + size held_output = ap load (worker_shown at w here) in
+        omega (arith, sum_set load ws w stowed model.idle_worker inside, weigh_insert one t held_output)
 
     -- so a node is free for it
     stow_room : get_or left 0 0 ≡ 0 → ⊥
@@ -300,31 +299,31 @@ module _ {g : Given} {distances parents histogram left right values : List ℕ} 
         (omega (
           arith,
           stow_held,
-          crew_loads (held-inputs at) (held-outputs at) (shown_phases at) (even at),
+          crew_loads (held_inputs at) (held_outputs at) (shown_phases at) (even at),
           ap (sum_of size) (map-append (held_by left right values) (take g.workers inputs) (take g.workers outputs)),
-          sum_append size (held-inputs at) (held-outputs at),
+          sum_append size (held_inputs at) (held_outputs at),
           ap (λ (k : ℕ). g.workers * k) at.ready.rows.count,
         ))
 
     -- one more is counted in a word
-    pub found-fits : found + 1 < 18446744073709551616
-    found-fits =
+    pub found_fits : found + 1 < 18446744073709551616
+    found_fits =
         omega (
           arith,
           at.stowed,
           stow_held,
-          crew_loads (held-inputs at) (held-outputs at) (shown_phases at) (even at),
+          crew_loads (held_inputs at) (held_outputs at) (shown_phases at) (even at),
           ap (λ (k : ℕ). g.workers * k) at.ready.rows.count,
-          mul-le-mul at.ready.accepted.few-workers at.ready.rows.few-vertices,
+          mul-le-mul at.ready.accepted.few_workers at.ready.rows.few-vertices,
         )
 
     -- what `stow` takes for granted
     pub stow_able : (e + 1 < 65536) × (Pooled left right (output ∷ []) × ((length left ≤ length values) × (get_or left 0 0 ≡ 0 → ⊥)))
     stow_able = (
-      (edge_small at.ready.rows named-edge).edge_small,
+      (edge_small at.ready.rows named_edge).edge_small,
       (
         output_pooled (enough at) at.pool w here,
-        (omega (arith, at.ready.numbered, at.long.left-long, at.long.values-long), stow_room),
+        (omega (arith, at.ready.numbered, at.long.left_long, at.long.values_long), stow_room),
       ),
     )
 
@@ -336,76 +335,73 @@ module _ {g : Given} {distances parents histogram left right values : List ℕ} 
     stowed_worked {left'} {right'} {values'} {more} {next} inserted passed = record {
       next = next;
       stored = refl;
-      input' = held-input;
+      input' = held_input;
       output' = held_by left' right' values' more;
-      moves = stowed-moves distances parents layer ground held-input named (rw at.long.distances-long in_row) inserted
-          (passed g.offsets named-edge.ends);
-      bags = rw input_back (output-after (enough at) at.pool w here values values' inserted.moved inserted.kept-value);
+      moves = stowed_moves distances parents layer ground held_input named (rw at.long.distances_long in_row) inserted
+          (passed g.offsets named_edge.ends);
+      bags = rw input_back (output-after (enough at) at.pool w here values values' inserted.moved inserted.kept_value);
       long = record {
-        distances-long = at.long.distances-long;
-        parents-long = at.long.parents-long;
-        left-long = inserted.moved.left-length ∙ at.long.left-long;
-        right-long = inserted.moved.right-length ∙ at.long.right-long;
-        values-long = ap length inserted.stored ∙ length-set values (get_or left 0 0) t ∙ at.long.values-long;
+        distances_long = at.long.distances_long;
+        parents_long = at.long.parents_long;
+        left_long = inserted.moved.left_length ∙ at.long.left_long;
+        right_long = inserted.moved.right_length ∙ at.long.right_long;
+        values_long = ap length inserted.stored ∙ length-set values (get_or left 0 0) t ∙ at.long.values_long;
         inputs_long = at.long.inputs_long;
-        outputs-long = length-set outputs w more ∙ at.long.outputs-long;
+        outputs_long = length-set outputs w more ∙ at.long.outputs_long;
         phases_long = at.long.phases_long;
       };
       recounted = at.recounted;
       taken = omega (arith, ap held_of named, held_one (Named u e f t) (λ (same : Named u e f t ≡ Free). let z : ◌≡◌ {A = ℕ} 0 1 = cc in omega arith));
-      found-more = omega (arith, ap size inserted.held, weigh_insert one t held-output);
+      found_more = omega (arith, ap size inserted.held, weigh_insert one t held_output);
     }
       where
         ground : GraphRows g.offsets g.targets (length distances)
-        ground = rw at.long.distances-long at.ready.rows
+        ground = rw at.long.distances_long at.ready.rows
 
   -- The moves without a bag.
 
   -- a phase that is neither free nor named
-  pub between-now : (tag : Phase → ℕ) → tag Free ≡ 0 → ((u e f t : ℕ) → tag (Named u e f t) ≡ 4)
-      → (tag phase ≡ 1) ⊎ ((tag phase ≡ 2) ⊎ ((tag phase ≡ 3) ⊎ (tag phase ≡ 4)))
-      → (tag phase ≡ 0) ⊎ ((tag phase ≡ 1) ⊎ ((tag phase ≡ 2) ⊎ (tag phase ≡ 3)))
-      → Between g.targets (length distances) phase
-  between-now tag first last h k = rw at.long.distances-long (between-others at.ready.rows tag first last phase in_row h k)
+  pub between_now : (phase ≡ Free → ⊥) → ((u e f t : ℕ) → phase ≡ Named u e f t → ⊥) → Between g.targets (length distances) phase
+  between_now free named = rw at.long.distances_long (between_others at.ready.rows phase in_row free named)
 
   -- a mark in the table
   module _ {u e f t : ℕ} (reached : phase ≡ InHand u e f t) where
     -- the worker after it has marked
     marking : model.Worker
-    marking = model.worker_with held-input held-output (model.marked u (e - get_or g.offsets u 0) t)
+    marking = model.worker_with held_input held_output (model.marked u (e - get_or g.offsets u 0) t)
 
     -- the table has this move for it
-    mark-act : act (graph g) (now-state at) (Work w) ≡ some (moved_state (now-state at) w (marking, mark layer t (labels_of distances parents)))
+    mark_act : act (graph g) (now_state at) (Work w) ≡ some (moved_state (now_state at) w (marking, mark layer t (labels_of distances parents)))
     unfolding after_move move phase_of marking
-    mark-act =
-        work-act
-        ∙ ap (λ (p : Phase). after_move (now-state at) w (move (graph g) layer (labels_of distances parents) held-input held-output (phase_of g.offsets p))) reached
+    mark_act =
+        work_act
+        ∙ ap (λ (p : Phase). after_move (now_state at) w (move (graph g) layer (labels_of distances parents) held_input held_output (phase_of g.offsets p))) reached
 
     -- the target is at d + 1 after it
-    mark-label : get_or (set (map option_of distances) t (some (suc layer))) t none ≡ some (suc layer)
-    mark-label =
+    mark_label : get_or (set (map option_of distances) t (some (suc layer))) t none ≡ some (suc layer)
+    mark_label =
         let here = (fits_as g.offsets g.vertices reached in_row).1 in
-        get_or-set_same (map option_of distances) t (some (suc layer)) none (omega (arith, length-map distances option_of, at.long.distances-long))
+        get_or-set_same (map option_of distances) t (some (suc layer)) none (omega (arith, length-map distances option_of, at.long.distances_long))
 
     -- so d + 1 is below n
-    mark-below : layer + 1 < length distances
+    mark_below : layer + 1 < length distances
     unfolding or_else state_of labels_of mark
-    mark-below =
-        let low : suc layer < length (graph g) = (rw mark-act at ((next_fits turn).distances-below t (suc layer))) mark-label in
-        omega (arith, at.ready.rows.count, at.long.distances-long)
+    mark_below =
+        let low : suc layer < length (graph g) = (rw mark_act at ((next_fits turn).distances_below t (suc layer))) mark_label in
+        omega (arith, at.ready.rows.count, at.long.distances_long)
 
     -- and a target that was set was at d + 1
-    mark-again : (k : ℕ) → get_or (map option_of distances) t none ≡ some k → k ≡ layer + 1
+    mark_again : (k : ℕ) → get_or (map option_of distances) t none ≡ some k → k ≡ layer + 1
     unfolding or_else state_of labels_of mark
-    mark-again k before =
-        let after : get_or (set (map option_of distances) t (some (suc layer))) t none ≡ some k = rw mark-act at (next-stays turn t k before) in
-        some-injective k (suc layer) (sym after ∙ mark-label) ∙ sym (add-one layer)
+    mark_again k before =
+        let after : get_or (set (map option_of distances) t (some (suc layer))) t none ≡ some k = rw mark_act at (next_stays turn t k before) in
+        some-injective k (suc layer) (sym after ∙ mark_label) ∙ sym (add-one layer)
 
   -- so a mark can be counted
   markable : (p : Phase) → phase ≡ p → Markable layer (length distances) distances p
   markable Free is = tt
   markable (Holding u e f) is = tt
-  markable (InHand u e f t) is = (mark-below is, mark-again is)
+  markable (InHand u e f t) is = (mark_below is, mark_again is)
   markable (Marked u e f t) is = tt
   markable (Named u e f t) is = tt
 
@@ -413,10 +409,10 @@ module _ {g : Given} {distances parents histogram left right values : List ℕ} 
   pub advance_able : Between g.targets (length distances) phase
       → (length parents ≡ length distances) × ((layer + 1 < 65536) × (Between g.targets (length distances) phase × Countable layer histogram phase))
   advance_able between = (
-    at.long.parents-long ∙ sym at.long.distances-long,
+    at.long.parents_long ∙ sym at.long.distances_long,
     (
       layer_fits at,
-      (between, countable_now layer distances phase (omega (arith, at.long.distances-long, at.ready.rows.few-vertices)) (markable phase refl) at.recounted),
+      (between, countable_now layer distances phase (omega (arith, at.long.distances_long, at.ready.rows.few-vertices)) (markable phase refl) at.recounted),
     ),
   )
 
@@ -429,26 +425,26 @@ module _ {g : Given} {distances parents histogram left right values : List ℕ} 
   advanced_worked {distances'} {parents'} {next = next} between promised counted = record {
     next = next;
     stored = refl;
-    input' = held-input;
-    output' = held-output;
-    moves = advanced-moves held-input held-output advanced;
-    bags = rw (input_back, output_back) (record { moved = same-moved (λ f. refl) at.pool.formed; inputs-held = refl; outputs-held = refl });
+    input' = held_input;
+    output' = held_output;
+    moves = advanced_moves held_input held_output advanced;
+    bags = rw (input_back, output_back) (record { moved = same_moved (λ f. refl) at.pool.formed; inputs_held = refl; outputs_held = refl });
     long = record {
-      distances-long = advanced.distances-length ∙ at.long.distances-long;
-      parents-long = advanced.parents-length ∙ at.long.parents-long;
-      left-long = at.long.left-long;
-      right-long = at.long.right-long;
-      values-long = at.long.values-long;
+      distances_long = advanced.distances_length ∙ at.long.distances_long;
+      parents_long = advanced.parents_length ∙ at.long.parents_long;
+      left_long = at.long.left_long;
+      right_long = at.long.right_long;
+      values_long = at.long.values_long;
       inputs_long = at.long.inputs_long;
-      outputs-long = at.long.outputs-long;
+      outputs_long = at.long.outputs_long;
       phases_long = at.long.phases_long;
     };
-    recounted = counts-recount phase advanced between (markable phase refl) at.recounted counted;
-    taken = omega (arith, held_one phase (λ free. not-between g.targets (length distances) free (λ never. never) between));
-    found-more = refl;
+    recounted = counts_recount phase advanced between (markable phase refl) at.recounted counted;
+    taken = omega (arith, held_one phase (λ free. not_between g.targets (length distances) free (λ never. never) between));
+    found_more = refl;
   }
     where
       advanced : Advanced phase layer g.offsets g.targets distances parents distances' parents' next
       advanced =
-          let long = at.long.distances-long in
-          promised g.offsets (rw long at.ready.rows) (rw long (layer-low at)) (rw long in_row)
+          let long = at.long.distances_long in
+          promised g.offsets (rw long at.ready.rows) (rw long (layer_low at)) (rw long in_row)

@@ -17,7 +17,7 @@ pub record Runnable (source P : ℕ)
     (schedule offsets targets distances parents histogram left right values : List ℕ) : Type 0 where
   pub rows : GraphRows offsets targets (length distances)
   pub accepted : Accepted (rows_of offsets targets) source P schedule
-  pub few-events : length schedule ≤ max_events
+  pub few_events : length schedule ≤ max_events
   pub sized : Sized P distances parents histogram left right values
 
 -- an answer by its four numbers

@@ -19,9 +19,9 @@ module _ (bytes : List ℕ) where
   size_cut e h = ap length (sym (take_all (length_in bytes) bytes (omega (arith, e))))
 
   -- or they have all of it
-  pub size-whole : {size : ℕ} → size ≡ length_in bytes → size ≤ length bytes → size ≡ length (file_at bytes)
+  pub size_whole : {size : ℕ} → size ≡ length_in bytes → size ≤ length bytes → size ≡ length (file_at bytes)
   unfolding file_at
-  size-whole e h = e ∙ sym (length-take-le (length_in bytes) bytes (omega (arith, e)))
+  size_whole e h = e ∙ sym (length-take-le (length_in bytes) bytes (omega (arith, e)))
 
   module _ {size : ℕ} (told : size ≡ length (file_at bytes)) where
     -- so many bytes are the file
@@ -50,24 +50,24 @@ module _ (bytes : List ℕ) where
 
   module _ (four : 4 ≤ length bytes) where
     -- the file has four bytes too
-    pub file-four : 4 ≤ length (file_at bytes)
+    pub file_four : 4 ≤ length (file_at bytes)
     unfolding file_at
-    file-four = omega (arith, length-take (length_in bytes) bytes)
+    file_four = omega (arith, length-take (length_in bytes) bytes)
 
     -- n
-    pub file-vertices : vertex_count (file_at bytes) ≡ vertex_count bytes
+    pub file_vertices : vertex_count (file_at bytes) ≡ vertex_count bytes
     unfolding vertex_count file_at
-    file-vertices = part_word 0 (length_in bytes) bytes 0 (omega arith)
+    file_vertices = part_word 0 (length_in bytes) bytes 0 (omega arith)
 
     -- and m are those of the bytes
-    pub file-edges : edge_count (file_at bytes) ≡ edge_count bytes
+    pub file_edges : edge_count (file_at bytes) ≡ edge_count bytes
     unfolding edge_count file_at
-    file-edges = part_word 0 (length_in bytes) bytes 1 (omega arith)
+    file_edges = part_word 0 (length_in bytes) bytes 1 (omega arith)
 
   -- with all of the file: its length, and that of what follows
-  pub file-long : length_in bytes ≤ length bytes → length (file_at bytes) ≡ length_in bytes
+  pub file_long : length_in bytes ≤ length bytes → length (file_at bytes) ≡ length_in bytes
   unfolding file_at
-  file-long h = length-take-le (length_in bytes) bytes h
+  file_long h = length-take-le (length_in bytes) bytes h
 
   pub sleepers_long : length_in bytes ≤ length bytes → length (sleepers_behind bytes) + length_in bytes ≡ length bytes
   unfolding sleepers_behind

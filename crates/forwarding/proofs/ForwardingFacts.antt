@@ -9,11 +9,11 @@ use native.Mathlib.Omega.{arith}
 use lib.ListN.{length, get_or, replicate, length-map, length-append, get_or-eq_default}
 use Rattle.lists.specs.Lists.{numbers_from, reaches}
 use Rattle.lists.proofs.Or.{or_none, none_or}
-use Rattle.lists.proofs.Parts.{get_or-repeated}
+use Rattle.lists.proofs.Parts.{get_or_repeated}
 use Rattle.lists.proofs.Tests.{length_range, map_range_at, map_range_next, reaches_append}
 use Rattle.graph.specs.Graph.{Graph, edges, targets_of}
 use Rattle.graph.specs.File.{vertex_count, graph_of}
-use Rattle.graph.proofs.FileLists.{length-graph}
+use Rattle.graph.proofs.FileLists.{length_graph}
 use Rattle.forwarding.specs.Sleepers.{is_sleepy, may_forward}
 use Rattle.forwarding.specs.Forwarding.{rows_where, forwarding, call_graph}
 
@@ -104,7 +104,7 @@ where_all test (row ∷ g) h =
 
 -- it has the file's n vertices
 pub call_length : (file : List ℕ) (source : ℕ) (sleepers : List ℕ) → length (call_graph file source sleepers) ≡ vertex_count file
-call_length file source sleepers = where_length (may_forward source sleepers) (graph_of file) ∙ length-graph file
+call_length file source sleepers = where_length (may_forward source sleepers) (graph_of file) ∙ length_graph file
 
 -- a vertex that is awake may forward
 pub awake_forwards : (source : ℕ) (sleepers : List ℕ) (v : ℕ) → is_sleepy sleepers v ≡ false → may_forward source sleepers v ≡ true
@@ -116,9 +116,9 @@ pub all_awake : (g : Graph) (source : ℕ) (sleepers : List ℕ) → ((v : ℕ) 
 all_awake g source sleepers awake = where_all (may_forward source sleepers) g (λ u. awake_forwards source sleepers u (awake u))
 
 -- "An all-zero list gives the earlier results."
-pub all-zero : (g : Graph) (source n : ℕ) → forwarding g source (replicate n 0) ≡ g
+pub all_zero : (g : Graph) (source n : ℕ) → forwarding g source (replicate n 0) ≡ g
 unfolding is_sleepy
-all-zero g source n = all_awake g source (replicate n 0) zero_awake
+all_zero g source n = all_awake g source (replicate n 0) zero_awake
   where
     zero_awake : (v : ℕ) → is_sleepy (replicate n 0) v ≡ false
-    zero_awake v = rw (get_or-repeated {A = ℕ} n v 0)
+    zero_awake v = rw (get_or_repeated {A = ℕ} n v 0)

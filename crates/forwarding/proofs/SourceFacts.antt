@@ -11,10 +11,10 @@ use lib.Seq.{drop-cons}
 use borrow.Author.Tests.{leb-false, eqb-true, not-false, le-leb, lt-leb, eq-eqb, ne_eqb}
 use Rattle.numbers.specs.Numbers.{success, bad_source, bad_sleepers}
 use Rattle.numbers.specs.Refusals.{Refusal, ◌gives◌, first}
-use Rattle.numbers.proofs.First.{Positive, first-stop, first_skip, first-passed, first_split}
+use Rattle.numbers.proofs.First.{Positive, first_stop, first_skip, first_passed, first_split}
 use Rattle.lists.specs.Lists.{largest, reaches}
 use Rattle.lists.proofs.Or.{or_none}
-use Rattle.lists.proofs.Tests.{reaches-largest}
+use Rattle.lists.proofs.Tests.{reaches_largest}
 use Rattle.graph.specs.File.{vertex_count}
 use Rattle.graph.specs.Read.{header_refusals, scan_refusals}
 use Rattle.forwarding.specs.Sleepers.{sleepers_wrong, source_refusals, source_number}
@@ -22,51 +22,51 @@ use Rattle.forwarding.specs.Sleepers.{sleepers_wrong, source_refusals, source_nu
 -- The largest byte, one after another.
 module _ (bytes : List ℕ) (i found : ℕ) (inv : largest bytes ≡ max found (largest (drop i bytes))) where
   -- one byte more
-  pub largest-more : i < length bytes → {more : ℕ} → more ≡ max found (get_or bytes i 0) → largest bytes ≡ max more (largest (drop (i + 1) bytes))
+  pub largest_more : i < length bytes → {more : ℕ} → more ≡ max found (get_or bytes i 0) → largest bytes ≡ max more (largest (drop (i + 1) bytes))
   unfolding largest
-  largest-more h e = rw (add-one i) (omega (arith, rw (drop-cons bytes i 0 h) at inv))
+  largest_more h e = rw (add-one i) (omega (arith, rw (drop-cons bytes i 0 h) at inv))
 
   -- none is left
-  pub largest-end : length bytes ≤ i → found ≡ largest bytes
+  pub largest_end : length bytes ≤ i → found ≡ largest bytes
   unfolding largest
-  largest-end h = omega (arith, rw (drop_of_length-le bytes h) at inv)
+  largest_end h = omega (arith, rw (drop_of_length-le bytes h) at inv)
 
 -- The list.
 module _ (n : ℕ) (sleepers : List ℕ) where
   -- it has not n bytes
-  pub wrong-length : (length sleepers ≡ n → ⊥) → true ≡ sleepers_wrong n sleepers
+  pub wrong_length : (length sleepers ≡ n → ⊥) → true ≡ sleepers_wrong n sleepers
   unfolding sleepers_wrong
-  wrong-length h = rw (ne_eqb (length sleepers) n h)
+  wrong_length h = rw (ne_eqb (length sleepers) n h)
 
   -- it has n bytes: the largest one decides
-  pub wrong-largest : length sleepers ≡ n → {found : ℕ} → found ≡ largest sleepers → ltb 1 found ≡ sleepers_wrong n sleepers
+  pub wrong_largest : length sleepers ≡ n → {found : ℕ} → found ≡ largest sleepers → ltb 1 found ≡ sleepers_wrong n sleepers
   unfolding sleepers_wrong
-  wrong-largest h e = rw (eq-eqb (length sleepers) n h, e) (sym (reaches-largest 2 sleepers (omega arith)))
+  wrong_largest h e = rw (eq-eqb (length sleepers) n h, e) (sym (reaches_largest 2 sleepers (omega arith)))
 
 -- an all-zero list has no byte above 1
-zero-low : (n : ℕ) → reaches 2 (replicate n 0) ≡ false
+zero_low : (n : ℕ) → reaches 2 (replicate n 0) ≡ false
 unfolding reaches
-zero-low zero = refl
-zero-low (suc n) = zero-low n
+zero_low zero = refl
+zero_low (suc n) = zero_low n
 
 -- so one of n bytes is never refused
 pub zero_right : (n : ℕ) → sleepers_wrong n (replicate n 0) ≡ false
 unfolding sleepers_wrong
-zero_right n = rw (eq-eqb (length (replicate {A = ℕ} n 0)) n (length-replicate n 0)) (zero-low n)
+zero_right n = rw (eq-eqb (length (replicate {A = ℕ} n 0)) n (length-replicate n 0)) (zero_low n)
 
 -- The two tests.
 module _ (n source : ℕ) (sleepers : List ℕ) where
   -- 7
-  pub source-far : n ≤ source → bad_source ≡ source_number n source sleepers
+  pub source_far : n ≤ source → bad_source ≡ source_number n source sleepers
   unfolding source_number source_refusals
-  source-far h = sym (first-stop (leb n source) bad_source _ (le-leb n source h))
+  source_far h = sym (first_stop (leb n source) bad_source _ (le-leb n source h))
 
   module _ (near : source < n) {wrong : Bool} (told : wrong ≡ sleepers_wrong n sleepers) where
     -- 12
     pub sleepers_refused : wrong ≡ true → bad_sleepers ≡ source_number n source sleepers
     unfolding source_number source_refusals
     sleepers_refused e =
-        sym (first_skip (leb n source) bad_source _ (lt-leb n source near) ∙ first-stop (sleepers_wrong n sleepers) bad_sleepers [] (sym told ∙ e))
+        sym (first_skip (leb n source) bad_source _ (lt-leb n source near) ∙ first_stop (sleepers_wrong n sleepers) bad_sleepers [] (sym told ∙ e))
 
     -- or neither
     pub sleepers_taken : wrong ≡ false → success ≡ source_number n source sleepers
@@ -74,9 +74,9 @@ module _ (n source : ℕ) (sleepers : List ℕ) where
     sleepers_taken e = rw (lt-leb n source near, ← told, e)
 
   -- both numbers are positive
-  pub positive-source : Positive (source_refusals n source sleepers)
+  pub positive_source : Positive (source_refusals n source sleepers)
   unfolding source_refusals
-  positive-source = omega arith
+  positive_source = omega arith
 
   -- a source and a list that neither 7 nor 12 refuses
   pub record SourceTaken : Type 0 where
@@ -84,13 +84,13 @@ module _ (n source : ℕ) (sleepers : List ℕ) where
     pub long : length sleepers ≡ n
     pub low : reaches 2 sleepers ≡ false
 
-  pub source-passed : first (source_refusals n source sleepers) ≡ 0 → SourceTaken
+  pub source_passed : first (source_refusals n source sleepers) ≡ 0 → SourceTaken
   unfolding source_refusals sleepers_wrong
-  source-passed e =
+  source_passed e =
       let other = not (eqb (length sleepers) n) in
       let high = reaches 2 sleepers in
-      let p = first-passed (leb n source) bad_source ((other || high) gives bad_sleepers ∷ []) (omega arith) e in
-      let q = first-passed (other || high) bad_sleepers [] (omega arith) p.1 in
+      let p = first_passed (leb n source) bad_source ((other || high) gives bad_sleepers ∷ []) (omega arith) e in
+      let q = first_passed (other || high) bad_sleepers [] (omega arith) p.1 in
       let both = or_none other high q.0 in
       record {
         near = leb-false n source p.0;
@@ -99,17 +99,17 @@ module _ (n source : ℕ) (sleepers : List ℕ) where
       }
 
   -- what neither refuses passes
-  pub source-takes : SourceTaken → first (source_refusals n source sleepers) ≡ 0
+  pub source_takes : SourceTaken → first (source_refusals n source sleepers) ≡ 0
   unfolding source_refusals sleepers_wrong first
-  source-takes t = rw (lt-leb n source t.near, eq-eqb (length sleepers) n t.long, t.low)
+  source_takes t = rw (lt-leb n source t.near, eq-eqb (length sleepers) n t.long, t.low)
 
 -- a list that is refused: whatever the tests before and after, the number is that of the tests before, or 7, or 12
-wrong-number : (n source : ℕ) (sleepers : List ℕ) → sleepers_wrong n sleepers ≡ true → (before after : List Refusal)
+wrong_number : (n source : ℕ) (sleepers : List ℕ) → sleepers_wrong n sleepers ≡ true → (before after : List Refusal)
     → first (before ++ (source_refusals n source sleepers ++ after)) ≡ first (before ++ leb n source gives bad_source ∷ true gives bad_sleepers ∷ [])
 unfolding source_refusals first
-wrong-number n source sleepers wrong [] after = rw wrong
-wrong-number n source sleepers wrong (test gives number ∷ before) after =
-    ap (λ (k : ℕ). cond test number k) (wrong-number n source sleepers wrong before after)
+wrong_number n source sleepers wrong [] after = rw wrong
+wrong_number n source sleepers wrong (test gives number ∷ before) after =
+    ap (λ (k : ℕ). cond test number k) (wrong_number n source sleepers wrong before after)
 
 -- A call with more sleepers than vertices: 12, unless a test before it holds.
 module _ (file : List ℕ) (source : ℕ) where
@@ -125,13 +125,13 @@ module _ (file : List ℕ) (source : ℕ) where
   pub over-number : (sleepers : List ℕ) → vertex_count file < length sleepers → (after : List Refusal)
       → first (file_tests ++ (source_refusals (vertex_count file) source sleepers ++ after)) ≡ over_number
   over-number sleepers more after =
-      wrong-number (vertex_count file) source sleepers (sym (wrong-length (vertex_count file) sleepers (λ e. omega (arith, more)))) file_tests after
+      wrong_number (vertex_count file) source sleepers (sym (wrong_length (vertex_count file) sleepers (λ e. omega (arith, more)))) file_tests after
 
   -- it is a refusal
-  pub over-refused : over_number ≡ success → ⊥
+  pub over_refused : over_number ≡ success → ⊥
   unfolding header_refusals scan_refusals first
-  over-refused z =
+  over_refused z =
       let last : List Refusal = leb (vertex_count file) source gives bad_source ∷ true gives bad_sleepers ∷ [] in
       let both = first_split file_tests last (omega arith) z in
-      let other = first-passed (leb (vertex_count file) source) bad_source (true gives bad_sleepers ∷ []) (omega arith) both.1 in
+      let other = first_passed (leb (vertex_count file) source) bad_source (true gives bad_sleepers ∷ []) (omega arith) both.1 in
       omega (arith, other.1)

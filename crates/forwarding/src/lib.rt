@@ -1,6 +1,8 @@
 // The list of sleepers (sleepy vertices), which comes with a file: whether a source and a list can be
 // taken, whether a vertex may pass messages on, and where a file ends that sleepers follow. These are
 // inner steps of the view, the search, the checker and the programs.
+#![tactic(auto)]
+
 ghost use Rattle.std.specs.Prelude.{◌≡◌, ◌<◌, ◌≤◌, max, length};
 ghost use Rattle.lists.specs.Lists.{largest};
 ghost use Rattle.forwarding.specs.Sleepers.{may_forward, sleepers_wrong, source_number};

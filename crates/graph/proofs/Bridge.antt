@@ -16,7 +16,7 @@ use Rattle.numbers.proofs.First.{first_skip}
 use Rattle.lists.specs.Lists.{sums_from, reaches, falls_from}
 use Rattle.lists.proofs.Or.{or_none, none_or}
 use Rattle.lists.proofs.Rows.{Rising, ends, rises, rise_of, rising_below, rising_step}
-use Rattle.lists.proofs.Tests.{falls_none, length-sums, falls_sums, first-sums, last-sums}
+use Rattle.lists.proofs.Tests.{falls_none, length_sums, falls_sums, first_sums, last_sums}
 use Rattle.graph.specs.Graph.{Graph, edges, offsets_of, targets_of, rows_of}
 use Rattle.graph.specs.Read.{outside_sizes}
 use Rattle.graph.specs.Write.{row_count, malformed}
@@ -43,9 +43,9 @@ pub record WithinSizes (n m : ℕ) : Type 0 where
   pub few_vertices : n ≤ max_vertices
   pub few_edges : m ≤ max_edges
 
-pub within-sizes : (n m : ℕ) → outside_sizes n m ≡ false → WithinSizes n m
+pub within_sizes : (n m : ℕ) → outside_sizes n m ≡ false → WithinSizes n m
 unfolding outside_sizes
-within-sizes n m e =
+within_sizes n m e =
     let p = or_none (eqb n 0 || ltb max_vertices n) (ltb max_edges m) e in
     let q = or_none (eqb n 0) (ltb max_vertices n) p.0 in
     let apart : n ≡ 0 → ⊥ = eqb-false n 0 q.0 in
@@ -55,21 +55,21 @@ within-sizes n m e =
     positive zero h = absurd (h refl)
     positive (suc k) h = omega arith
 
-pub sizes-within : (n m : ℕ) → WithinSizes n m → outside_sizes n m ≡ false
+pub sizes_within : (n m : ℕ) → WithinSizes n m → outside_sizes n m ≡ false
 unfolding outside_sizes
-sizes-within n m s =
+sizes_within n m s =
     none_or (eqb n 0 || ltb max_vertices n) (ltb max_edges m)
     (none_or (eqb n 0) (ltb max_vertices n) (ne_eqb n 0 (λ (q : n ≡ 0). omega arith)) (le-ltb max_vertices n s.few_vertices))
     (le-ltb max_edges m s.few_edges)
 
 -- a row for each offset but the last
-pub offsets-count : (offsets : List ℕ) → 1 ≤ length offsets → length offsets ≡ suc (row_count offsets)
-offsets-count [] h = absurd (not-suc-le-zero h)
-offsets-count (a ∷ offsets) h = refl
+pub offsets_count : (offsets : List ℕ) → 1 ≤ length offsets → length offsets ≡ suc (row_count offsets)
+offsets_count [] h = absurd (not-suc-le-zero h)
+offsets_count (a ∷ offsets) h = refl
 
-some-offsets : (offsets : List ℕ) → 1 ≤ row_count offsets → 1 ≤ length offsets
-some-offsets [] h = absurd (not-suc-le-zero h)
-some-offsets (a ∷ offsets) h = omega arith
+some_offsets : (offsets : List ℕ) → 1 ≤ row_count offsets → 1 ≤ length offsets
+some_offsets [] h = absurd (not-suc-le-zero h)
+some_offsets (a ∷ offsets) h = omega arith
 
 -- what the writer's test finds nothing wrong with
 pub accept_rows : (offsets targets : List ℕ) → malformed offsets targets ≡ false → Accepted offsets targets
@@ -86,10 +86,10 @@ accept_rows offsets targets e =
     let p₃ = or_none (sizes || empty || falls) (not start) p₄.0 in
     let p₂ = or_none (sizes || empty) falls p₃.0 in
     let p₁ = or_none sizes empty p₂.0 in
-    let s = within-sizes n (length targets) p₁.0 in
+    let s = within_sizes n (length targets) p₁.0 in
     record {
       rows = record {
-        some = some-offsets offsets s.some;
+        some = some_offsets offsets s.some;
         rise = p₂.1;
         start = eqb-true (get_or offsets 0 0) 0 (not-false start p₃.1);
         stop = eqb-true (get_or offsets n 0) (length targets) (not-false stop p₄.1);
@@ -101,10 +101,10 @@ accept_rows offsets targets e =
     }
 
 -- rows in order are not malformed
-pub not-malformed : (offsets targets : List ℕ) → Accepted offsets targets → malformed offsets targets ≡ false
+pub not_malformed : (offsets targets : List ℕ) → Accepted offsets targets → malformed offsets targets ≡ false
 unfolding malformed
-not-malformed offsets targets a = rw (
-  sizes-within (row_count offsets) (length targets) (record { some = a.some_vertices; few_vertices = a.few_vertices; few_edges = a.few_edges }),
+not_malformed offsets targets a = rw (
+  sizes_within (row_count offsets) (length targets) (record { some = a.some_vertices; few_vertices = a.few_vertices; few_edges = a.few_edges }),
   ne_eqb (length offsets) 0 (λ (q : length offsets ≡ 0). omega arith),
   a.rows.rise,
   eq-eqb (get_or offsets 0 0) 0 a.rows.start,
@@ -112,36 +112,36 @@ not-malformed offsets targets a = rw (
 ) a.below
 
 -- the offsets of a graph: n + 1 places, from 0 up to m
-pub length-offsets : (g : Graph) → length (offsets_of g) ≡ suc (length g)
+pub length_offsets : (g : Graph) → length (offsets_of g) ≡ suc (length g)
 unfolding offsets_of
-length-offsets g = rw (length-sums 0 (map length g), length-map g length)
+length_offsets g = rw (length_sums 0 (map length g), length-map g length)
 
-pub first-offset : (g : Graph) → get_or (offsets_of g) 0 0 ≡ 0
+pub first_offset : (g : Graph) → get_or (offsets_of g) 0 0 ≡ 0
 unfolding offsets_of
-first-offset g = first-sums 0 0 (map length g)
+first_offset g = first_sums 0 0 (map length g)
 
-pub last-offset : (g : Graph) → get_or (offsets_of g) (length g) 0 ≡ length (targets_of g)
+pub last_offset : (g : Graph) → get_or (offsets_of g) (length g) 0 ≡ length (targets_of g)
 unfolding offsets_of targets_of
-last-offset g = last-sums 0 0 g ∙ omega arith
+last_offset g = last_sums 0 0 g ∙ omega arith
 
 pub rising_offsets : (g : Graph) → falls_from 0 (offsets_of g) ≡ false
 unfolding offsets_of
 rising_offsets g = falls_sums 0 0 (map length g) (omega arith)
 
-pub graph-rows : (g : Graph) → Rows (offsets_of g) (targets_of g)
-graph-rows g = record {
-  some = omega (arith, length-offsets g);
+pub graph_rows : (g : Graph) → Rows (offsets_of g) (targets_of g)
+graph_rows g = record {
+  some = omega (arith, length_offsets g);
   rise = rising_offsets g;
-  start = first-offset g;
-  stop = rw (length-offsets g) (last-offset g);
+  start = first_offset g;
+  stop = rw (length_offsets g) (last_offset g);
 }
 
 -- so many rows
-pub length-rows : (offsets targets : List ℕ) → length (rows_of offsets targets) ≡ row_count offsets
+pub length_rows : (offsets targets : List ℕ) → length (rows_of offsets targets) ≡ row_count offsets
 unfolding rows_of
-length-rows [] targets = refl
-length-rows (a ∷ []) targets = refl
-length-rows (a ∷ b ∷ offsets) targets = ap suc (length-rows (b ∷ offsets) targets)
+length_rows [] targets = refl
+length_rows (a ∷ []) targets = refl
+length_rows (a ∷ b ∷ offsets) targets = ap suc (length_rows (b ∷ offsets) targets)
 
 -- row u is the part of the targets from its offset up to the next one
 pub row_at : (offsets targets : List ℕ) (u : ℕ) → u < row_count offsets
@@ -157,23 +157,23 @@ pub rows_rising : (a : ℕ) (offsets targets : List ℕ) → Rows (a ∷ offsets
 rows_rising a offsets targets r = rise_of (length targets) a offsets (falls_none 0 a offsets r.rise).1 r.stop
 
 -- so each row's two offsets do not fall or pass the end of the targets
-pub offsets-rise : (offsets targets : List ℕ) → Rows offsets targets → (u : ℕ) → u < row_count offsets → get_or offsets u 0 ≤ get_or offsets (suc u) 0
-offsets-rise [] targets r u h = absurd (not-suc-le-zero r.some)
-offsets-rise (a ∷ offsets) targets r u h = rising_step (rows_rising a offsets targets r) u h
+pub offsets_rise : (offsets targets : List ℕ) → Rows offsets targets → (u : ℕ) → u < row_count offsets → get_or offsets u 0 ≤ get_or offsets (suc u) 0
+offsets_rise [] targets r u h = absurd (not-suc-le-zero r.some)
+offsets_rise (a ∷ offsets) targets r u h = rising_step (rows_rising a offsets targets r) u h
 
-pub offsets-end : (offsets targets : List ℕ) → Rows offsets targets → (u : ℕ) → u < row_count offsets → get_or offsets (suc u) 0 ≤ length targets
-offsets-end [] targets r u h = absurd (not-suc-le-zero r.some)
-offsets-end (a ∷ offsets) targets r u h = rising_below (rows_rising a offsets targets r) (suc u)
+pub offsets_end : (offsets targets : List ℕ) → Rows offsets targets → (u : ℕ) → u < row_count offsets → get_or offsets (suc u) 0 ≤ length targets
+offsets_end [] targets r u h = absurd (not-suc-le-zero r.some)
+offsets_end (a ∷ offsets) targets r u h = rising_below (rows_rising a offsets targets r) (suc u)
 
 -- so the view finds nothing wrong
 in_view : (offsets targets : List ℕ) → Rows offsets targets → (u : ℕ) → u < row_count offsets → out_of_view offsets targets u ≡ false
 unfolding out_of_view
 in_view offsets targets r u h = rw (
   add-one,
-  le-ltb (length offsets) 2 (omega (arith, offsets-count offsets r.some)),
-  lt-ltb u (length offsets - 1) (omega (arith, offsets-count offsets r.some)),
-  le-ltb (get_or offsets (suc u) 0) (get_or offsets u 0) (offsets-rise offsets targets r u h),
-  le-ltb (length targets) (get_or offsets (suc u) 0) (offsets-end offsets targets r u h),
+  le-ltb (length offsets) 2 (omega (arith, offsets_count offsets r.some)),
+  lt-ltb u (length offsets - 1) (omega (arith, offsets_count offsets r.some)),
+  le-ltb (get_or offsets (suc u) 0) (get_or offsets u 0) (offsets_rise offsets targets r u h),
+  le-ltb (length targets) (get_or offsets (suc u) 0) (offsets_end offsets targets r u h),
 )
 
 pub links_number_lem : (offsets targets : List ℕ) → Rows offsets targets → (u : ℕ) → u < row_count offsets → links_number offsets targets u ≡ 0
@@ -192,8 +192,8 @@ rows_step a b [] targets = refl
 rows_step a b (x ∷ l) targets = refl
 
 -- the first row of the targets behind those of the rows before
-first-row : (before row rest : List ℕ) → take ((length before + length row) - length before) (drop (length before) (before ++ (row ++ rest))) ≡ row
-first-row before row rest =
+first_row : (before row rest : List ℕ) → take ((length before + length row) - length before) (drop (length before) (before ++ (row ++ rest))) ≡ row
+first_row before row rest =
     let size : (length before + length row) - length before ≡ length row = omega arith in
     rw (size, drop-append_seam, take-append_seam)
 
@@ -202,17 +202,17 @@ unfolding rows_of sums_from flatten
 rows_behind before [] = refl
 rows_behind before (row ∷ g) =
     rows_step (length before) (length before + length row) (map length g) (before ++ (row ++ flatten g))
-    ∙ ap₂ (λ (r : List ℕ) (rest : Graph). r ∷ rest) (first-row before row (flatten g))
+    ∙ ap₂ (λ (r : List ℕ) (rest : Graph). r ∷ rest) (first_row before row (flatten g))
     (rw (← append_assoc before row (flatten g), ← length-append before row) (rows_behind (before ++ row) g))
 
 -- offsets and targets of a graph give the graph back
-pub graph-again : (g : Graph) → rows_of (offsets_of g) (targets_of g) ≡ g
+pub graph_again : (g : Graph) → rows_of (offsets_of g) (targets_of g) ≡ g
 unfolding offsets_of targets_of
-graph-again g = rows_behind [] g
+graph_again g = rows_behind [] g
 
 -- a row between two offsets that do not fall or pass the end
-pub row-between : (a b : ℕ) (targets : List ℕ) → a ≤ b → b ≤ length targets → a + length (take (b - a) (drop a targets)) ≡ b
-row-between a b targets h k = simp (length-take, length-drop) (omega arith)
+pub row_between : (a b : ℕ) (targets : List ℕ) → a ≤ b → b ≤ length targets → a + length (take (b - a) (drop a targets)) ≡ b
+row_between a b targets h k = simp (length-take, length-drop) (omega arith)
 
 row_and_rest : (a b : ℕ) (targets : List ℕ) → a ≤ b → take (b - a) (drop a targets) ++ drop b targets ≡ drop a targets
 row_and_rest a b targets h =
@@ -224,39 +224,39 @@ row_and_rest a b targets h =
 sums-from : (targets : List ℕ) {a : ℕ} {rest : List ℕ} → Rising (length targets) a rest → sums_from a (map length (rows_of (a ∷ rest) targets)) ≡ a ∷ rest
 unfolding rows_of sums_from
 sums-from targets (ends e) = refl
-sums-from targets (rises {a} {b} h r) = ap (λ (l : List ℕ). a ∷ l) (rw (row-between a b targets h (rising_below r 0)) (sums-from targets r))
+sums-from targets (rises {a} {b} h r) = ap (λ (l : List ℕ). a ∷ l) (rw (row_between a b targets h (rising_below r 0)) (sums-from targets r))
 
-pub rows-from : (targets : List ℕ) {a : ℕ} {rest : List ℕ} → Rising (length targets) a rest → targets_of (rows_of (a ∷ rest) targets) ≡ drop a targets
+pub rows_from : (targets : List ℕ) {a : ℕ} {rest : List ℕ} → Rising (length targets) a rest → targets_of (rows_of (a ∷ rest) targets) ≡ drop a targets
 unfolding rows_of targets_of flatten
-rows-from targets (ends e) = rw (e, drop-length)
-rows-from targets (rises {a} {b} h r) = rw (rows-from targets r) (row_and_rest a b targets h)
+rows_from targets (ends e) = rw (e, drop-length)
+rows_from targets (rises {a} {b} h r) = rw (rows_from targets r) (row_and_rest a b targets h)
 
 -- offsets and targets in order are those of their rows
-pub offsets-again : (offsets targets : List ℕ) → Rows offsets targets → offsets_of (rows_of offsets targets) ≡ offsets
+pub offsets_again : (offsets targets : List ℕ) → Rows offsets targets → offsets_of (rows_of offsets targets) ≡ offsets
 unfolding offsets_of
-offsets-again [] targets r = absurd (not-suc-le-zero r.some)
-offsets-again (a ∷ offsets) targets r = rw (← r.start) (sums-from targets (rows_rising a offsets targets r))
+offsets_again [] targets r = absurd (not-suc-le-zero r.some)
+offsets_again (a ∷ offsets) targets r = rw (← r.start) (sums-from targets (rows_rising a offsets targets r))
 
-pub targets-again : (offsets targets : List ℕ) → Rows offsets targets → targets_of (rows_of offsets targets) ≡ targets
-targets-again [] targets r = absurd (not-suc-le-zero r.some)
-targets-again (a ∷ offsets) targets r = rows-from targets (rows_rising a offsets targets r) ∙ rw r.start
+pub targets_again : (offsets targets : List ℕ) → Rows offsets targets → targets_of (rows_of offsets targets) ≡ targets
+targets_again [] targets r = absurd (not-suc-le-zero r.some)
+targets_again (a ∷ offsets) targets r = rows_from targets (rows_rising a offsets targets r) ∙ rw r.start
 
 -- The same for a graph: the view of each of its vertices is its row.
 
-graph-count : (g : Graph) → row_count (offsets_of g) ≡ length g
-graph-count g = ap pred (length-offsets g)
+graph_count : (g : Graph) → row_count (offsets_of g) ≡ length g
+graph_count g = ap pred (length_offsets g)
 
 pub graph_links : (g : Graph) (u : ℕ) → u < length g → links_of (offsets_of g) (targets_of g) u ≡ edges g u
-graph_links g u h = links_edges (offsets_of g) (targets_of g) (graph-rows g) u (rw (graph-count g) h) ∙ ap (λ (rows : Graph). edges rows u) (graph-again g)
+graph_links g u h = links_edges (offsets_of g) (targets_of g) (graph_rows g) u (rw (graph_count g) h) ∙ ap (λ (rows : Graph). edges rows u) (graph_again g)
 
 -- The same for offsets and targets that the writer accepts.
 
 module _ (offsets targets : List ℕ) (e : malformed offsets targets ≡ false) where
-  pub accepted-offsets : offsets_of (rows_of offsets targets) ≡ offsets
-  accepted-offsets = offsets-again offsets targets (accept_rows offsets targets e).rows
+  pub accepted_offsets : offsets_of (rows_of offsets targets) ≡ offsets
+  accepted_offsets = offsets_again offsets targets (accept_rows offsets targets e).rows
 
-  pub accepted-targets : targets_of (rows_of offsets targets) ≡ targets
-  accepted-targets = targets-again offsets targets (accept_rows offsets targets e).rows
+  pub accepted_targets : targets_of (rows_of offsets targets) ≡ targets
+  accepted_targets = targets_again offsets targets (accept_rows offsets targets e).rows
 
   pub accepted_links : (u : ℕ) → u < row_count offsets → links_of offsets targets u ≡ edges (rows_of offsets targets) u
   accepted_links = links_edges offsets targets (accept_rows offsets targets e).rows
@@ -272,19 +272,19 @@ pub record Fits (g : Graph) : Type 0 where
   pub below : reaches (length g) (targets_of g) ≡ false
 
 -- the writer accepts it
-pub fits-accepted : (g : Graph) → Fits g → malformed (offsets_of g) (targets_of g) ≡ false
-fits-accepted g f = not-malformed (offsets_of g) (targets_of g) (record {
-  rows = graph-rows g;
-  some_vertices = rw (graph-count g) f.some;
-  few_vertices = rw (graph-count g) f.few_vertices;
+pub fits_accepted : (g : Graph) → Fits g → malformed (offsets_of g) (targets_of g) ≡ false
+fits_accepted g f = not_malformed (offsets_of g) (targets_of g) (record {
+  rows = graph_rows g;
+  some_vertices = rw (graph_count g) f.some;
+  few_vertices = rw (graph_count g) f.few_vertices;
   few_edges = f.few_edges;
-  below = rw (graph-count g) f.below;
+  below = rw (graph_count g) f.below;
 })
 
 -- and what the writer accepts is one
-pub accepted-fits : (offsets targets : List ℕ) → malformed offsets targets ≡ false → Fits (rows_of offsets targets)
-accepted-fits offsets targets e =
+pub accepted_fits : (offsets targets : List ℕ) → malformed offsets targets ≡ false → Fits (rows_of offsets targets)
+accepted_fits offsets targets e =
     let a = accept_rows offsets targets e in
-    let n = length-rows offsets targets in
-    let t = accepted-targets offsets targets e in
+    let n = length_rows offsets targets in
+    let t = accepted_targets offsets targets e in
     record { some = rw n a.some_vertices; few_vertices = rw n a.few_vertices; few_edges = rw t a.few_edges; below = rw (n, t) a.below }

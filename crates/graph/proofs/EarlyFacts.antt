@@ -10,7 +10,7 @@ use Rattle.graph.specs.File.{vertex_count, edge_count}
 use Rattle.graph.specs.Read.{refusal_answer, answer_with}
 use Rattle.graph.specs.Steps.{file_refusals, file_answer, Scanned}
 use Rattle.graph.specs.declared.ReadAnswer.{ReadAnswer}
-use Rattle.graph.proofs.ReadFacts.{answer-number, answer-whole, answer-by, positive-file, passed-scanned, file-number, file-whole}
+use Rattle.graph.proofs.ReadFacts.{answer_number, answer_whole, answer-by, positive_file, passed_scanned, file_number, file_whole}
 
 module _ (file : List ℕ) (others : List Refusal) where
   -- all these tests
@@ -25,40 +25,40 @@ module _ (file : List ℕ) (others : List Refusal) where
   pub record Passed (head : ReadAnswer) : Type 0 where
     pub none : first refusals ≡ 0
     pub scanned : Scanned file head.vertices head.edges
-    pub others-none : first others ≡ 0
+    pub others_none : first others ≡ 0
 
   module _ {head : ReadAnswer} (judged : head ≡ answer) where
     -- the answer's number
-    pub early-number : head.number ≡ first refusals
-    early-number = ap (λ (x : ReadAnswer). x.number) judged ∙ answer-number (first refusals) (vertex_count file) (edge_count file)
+    pub early_number : head.number ≡ first refusals
+    early_number = ap (λ (x : ReadAnswer). x.number) judged ∙ answer_number (first refusals) (vertex_count file) (edge_count file)
 
     -- with 0 each test is passed
-    pub early-passed : head.number ≡ 0 → Passed head
-    early-passed e =
-        let zeroth : first refusals ≡ 0 = sym early-number ∙ e in
+    pub early_passed : head.number ≡ 0 → Passed head
+    early_passed e =
+        let zeroth : first refusals ≡ 0 = sym early_number ∙ e in
         let same : head ≡ record { number = 0; vertices = vertex_count file; edges = edge_count file } =
-        judged ∙ answer-whole (first refusals) (vertex_count file) (edge_count file) zeroth in
-        let p = first_split (file_refusals file) others (positive-file file) zeroth in
-        record { none = zeroth; scanned = rw same (passed-scanned file p.0); others-none = p.1 }
+        judged ∙ answer_whole (first refusals) (vertex_count file) (edge_count file) zeroth in
+        let p = first_split (file_refusals file) others (positive_file file) zeroth in
+        record { none = zeroth; scanned = rw same (passed_scanned file p.0); others_none = p.1 }
 
   module _ {head : ReadAnswer} (answered : head ≡ file_answer file) where
     -- refused by the file's tests
-    pub by-file : (head.number ≡ 0 → ⊥) → head ≡ answer
+    pub by_file : (head.number ≡ 0 → ⊥) → head ≡ answer
     unfolding file_answer
-    by-file h =
-        let found : first (file_refusals file) ≡ 0 → ⊥ = λ z. h (file-number file answered ∙ z) in
+    by_file h =
+        let found : first (file_refusals file) ≡ 0 → ⊥ = λ z. h (file_number file answered ∙ z) in
         let stopped = first_append_stop (file_refusals file) others (omega arith) in
         answered ∙ ap (λ (x : ℕ). answer_with x (vertex_count file) (edge_count file)) (sym stopped)
 
     module _ (whole : head.number ≡ 0) where
       -- past them
-      number-others : first refusals ≡ first others
-      number-others = first_append (file_refusals file) others (positive-file file) (sym (file-number file answered) ∙ whole)
+      number_others : first refusals ≡ first others
+      number_others = first_append (file_refusals file) others (positive_file file) (sym (file_number file answered) ∙ whole)
 
       -- refused by the others
-      pub by-others : {k : ℕ} {r : ReadAnswer} → first others ≡ k → (k ≡ 0 → ⊥) → r ≡ refusal_answer k → r ≡ answer
-      by-others f h e = answer-by refusals (vertex_count file) (edge_count file) (number-others ∙ f) h e
+      pub by_others : {k : ℕ} {r : ReadAnswer} → first others ≡ k → (k ≡ 0 → ⊥) → r ≡ refusal_answer k → r ≡ answer
+      by_others f h e = answer-by refusals (vertex_count file) (edge_count file) (number_others ∙ f) h e
 
       -- or by nothing: n and m are the file's
-      pub by-none : first others ≡ 0 → head ≡ answer
-      by-none f = file-whole file answered whole ∙ sym (answer-whole (first refusals) (vertex_count file) (edge_count file) (number-others ∙ f))
+      pub by_none : first others ≡ 0 → head ≡ answer
+      by_none f = file_whole file answered whole ∙ sym (answer_whole (first refusals) (vertex_count file) (edge_count file) (number_others ∙ f))

@@ -9,10 +9,10 @@ use Rattle.graph.specs.File.{word}
 use Rattle.graph.specs.Encode.{heads_from, row_records, records_from, bytes_of}
 
 -- each word is two bytes
-pub length-bytes : (words : List ℕ) → length (bytes_of words) ≡ 2 * length words
+pub length_bytes : (words : List ℕ) → length (bytes_of words) ≡ 2 * length words
 unfolding bytes_of
-length-bytes [] = refl
-length-bytes (w ∷ words) = let h = length-bytes words in omega arith
+length_bytes [] = refl
+length_bytes (w ∷ words) = let h = length_bytes words in omega arith
 
 -- low byte first: the two bytes of a word make it up
 two_bytes : (w : ℕ) → w % 256 + 256 * (w / 256) ≡ w
@@ -29,16 +29,16 @@ word_bytes (w ∷ words) (suc i) =
     rw (high, low) (word_bytes words i)
 
 -- a head for each row
-pub length-heads : (k : ℕ) (g : Graph) → length (heads_from k g) ≡ length g
+pub length_heads : (k : ℕ) (g : Graph) → length (heads_from k g) ≡ length g
 unfolding heads_from
-length-heads k [] = refl
-length-heads k (row ∷ g) = ap suc (length-heads (k + length row) g)
+length_heads k [] = refl
+length_heads k (row ∷ g) = ap suc (length_heads (k + length row) g)
 
 -- two words for each record of a row
-pub length-row : (k : ℕ) (row : List ℕ) → length (row_records k row) ≡ 2 * length row
+pub length_row : (k : ℕ) (row : List ℕ) → length (row_records k row) ≡ 2 * length row
 unfolding row_records
-length-row k [] = refl
-length-row k (t ∷ row) = let h = length-row (suc k) row in omega arith
+length_row k [] = refl
+length_row k (t ∷ row) = let h = length_row (suc k) row in omega arith
 
 -- and for each record of all rows
 pub length_records : (k : ℕ) (g : Graph) → length (records_from k g) ≡ 2 * length (targets_of g)
@@ -47,4 +47,4 @@ length_records k [] = refl
 length_records k (row ∷ g) =
     let a = length-append (row_records k row) (records_from (k + length row) g) in
     let b = length-append row (flatten g) in
-    omega (arith, length-row k row, length_records (k + length row) g)
+    omega (arith, length_row k row, length_records (k + length row) g)

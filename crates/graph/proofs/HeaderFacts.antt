@@ -10,7 +10,7 @@ use Rattle.numbers.specs.Refusals.{first}
 use Rattle.graph.specs.File.{vertex_count, edge_count, file_length}
 use Rattle.graph.specs.Read.{header_refusals, outside_sizes}
 use Rattle.graph.specs.Steps.{Sized}
-use Rattle.graph.proofs.WellFormed.{header-sized}
+use Rattle.graph.proofs.WellFormed.{header_sized}
 
 -- 1: under 4 bytes
 pub header_under_four : (file : List ℕ) → length file < 4 → first (header_refusals file) ≡ bad_length
@@ -24,15 +24,15 @@ module _ (file : List ℕ) {n m : ℕ} (four : 4 ≤ length file) (vertices : n 
   header_outside h = rw (← vertices, ← edges, le-ltb (length file) 4 four, h)
 
   -- 1: the length is not n's and m's
-  pub header-length : outside_sizes n m ≡ false → (length file ≡ file_length n m → ⊥) → first (header_refusals file) ≡ bad_length
+  pub header_length : outside_sizes n m ≡ false → (length file ≡ file_length n m → ⊥) → first (header_refusals file) ≡ bad_length
   unfolding header_refusals first
-  header-length h e = rw (← vertices, ← edges, le-ltb (length file) 4 four, h, ne_eqb (length file) (file_length n m) e)
+  header_length h e = rw (← vertices, ← edges, le-ltb (length file) 4 four, h, ne_eqb (length file) (file_length n m) e)
 
   -- the header passes
-  pub header-passes : outside_sizes n m ≡ false → length file ≡ file_length n m → first (header_refusals file) ≡ 0
+  pub header_passes : outside_sizes n m ≡ false → length file ≡ file_length n m → first (header_refusals file) ≡ 0
   unfolding header_refusals first
-  header-passes h e = rw (← vertices, ← edges, le-ltb (length file) 4 four, h, eq-eqb (length file) (file_length n m) e)
+  header_passes h e = rw (← vertices, ← edges, le-ltb (length file) 4 four, h, eq-eqb (length file) (file_length n m) e)
 
   -- and n and m are within their sizes
-  pub header-fits : first (header_refusals file) ≡ 0 → Sized file n m
-  header-fits e = rw (vertices, edges) (header-sized file e)
+  pub header_fits : first (header_refusals file) ≡ 0 → Sized file n m
+  header_fits e = rw (vertices, edges) (header_sized file e)

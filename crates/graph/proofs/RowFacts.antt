@@ -6,27 +6,27 @@ use Prim.Native.Nat.{ℕ, suc, ◌+◌, ◌-◌, ◌≤◌, ◌<◌}
 use native.Mathlib.Omega.{arith}
 use lib.ListN.{length, get_or, set, length-map}
 use Rattle.lists.specs.Lists.{overlay, sums_from, numbers_from}
-use Rattle.lists.proofs.Overlay.{Laid, laid_none, laid_more, laid-all}
-use Rattle.lists.proofs.Any.{elem-place, place-elem}
+use Rattle.lists.proofs.Overlay.{Laid, laid_none, laid_more, laid_all}
+use Rattle.lists.proofs.Any.{elem_place, place_elem}
 use Rattle.lists.proofs.Replaced.{map_at}
-use Rattle.lists.proofs.Tests.{lacks-elem, range_elem, row-start, row-none}
+use Rattle.lists.proofs.Tests.{lacks_elem, range_elem, row_start, row_none}
 use Rattle.graph.specs.Graph.{offsets_of, targets_of}
 use Rattle.graph.specs.File.{vertex_count, edge_count, head_index, target, chain, chains, reached, graph_of}
 use Rattle.graph.specs.Steps.{Chained, Ranked}
-use Rattle.graph.proofs.Bridge.{length-offsets, last-offset}
-use Rattle.graph.proofs.FileLists.{length-chains, length-graph}
-use Rattle.graph.proofs.WalkFacts.{chain-end, chain-step}
-use Rattle.graph.proofs.WellFormed.{scanned-bounded, chained_partitioned, chain-at, reached_in_range, reached-length, graph-targets, graph-edges}
+use Rattle.graph.proofs.Bridge.{length_offsets, last_offset}
+use Rattle.graph.proofs.FileLists.{length_chains, length_graph}
+use Rattle.graph.proofs.WalkFacts.{chain_end, chain_step}
+use Rattle.graph.proofs.WellFormed.{scanned_bounded, chained_partitioned, chain_at, reached_in_range, reached_length, graph_targets, graph_edges}
 
 -- the rows are as long as the chains
-row-lengths : (file : List ℕ) (rows : List (List ℕ)) → map length (map (λ (row : List ℕ). map (target file) row) rows) ≡ map length rows
-row-lengths file [] = refl
-row-lengths file (row ∷ rows) = rw (length-map row (target file), row-lengths file rows)
+row_lengths : (file : List ℕ) (rows : List (List ℕ)) → map length (map (λ (row : List ℕ). map (target file) row) rows) ≡ map length rows
+row_lengths file [] = refl
+row_lengths file (row ∷ rows) = rw (length-map row (target file), row_lengths file rows)
 
 -- so the offsets are those of the chains
-offsets-chains : (file : List ℕ) → offsets_of (graph_of file) ≡ sums_from 0 (map length (chains file))
+offsets_chains : (file : List ℕ) → offsets_of (graph_of file) ≡ sums_from 0 (map length (chains file))
 unfolding offsets_of graph_of
-offsets-chains file = ap (sums_from 0) (row-lengths file (chains file))
+offsets_chains file = ap (sums_from 0) (row_lengths file (chains file))
 
 -- The rows of a file whose records are ranked.
 
@@ -40,22 +40,22 @@ Offsets file old list vertex = Laid (offsets_of (graph_of file)) old list (λ j.
 
 module _ {file : List ℕ} {n m : ℕ} {marks : List ℕ} (s : Chained file n m) (r : Ranked file marks) where
   -- all records are reached
-  reached-long : length (reached file) ≡ m
-  reached-long = reached-length file (scanned-bounded s.scanned) (chained_partitioned s) ∙ sym s.scanned.sized.edges
+  reached_long : length (reached file) ≡ m
+  reached_long = reached_length file (scanned_bounded s.scanned) (chained_partitioned s) ∙ sym s.scanned.sized.edges
 
   -- each is a record of the file
-  reached-at : (j : ℕ) → j < m → (1 ≤ get_or (reached file) j 0) × (get_or (reached file) j 0 ≤ m)
-  reached-at j h =
-      rw s.scanned.sized.edges (reached_in_range file (scanned-bounded s.scanned) (get_or (reached file) j 0)
-      (place-elem (get_or (reached file) j 0) (reached file) j (omega (arith, reached-long)) refl))
+  reached_at : (j : ℕ) → j < m → (1 ≤ get_or (reached file) j 0) × (get_or (reached file) j 0 ≤ m)
+  reached_at j h =
+      rw s.scanned.sized.edges (reached_in_range file (scanned_bounded s.scanned) (get_or (reached file) j 0)
+      (place_elem (get_or (reached file) j 0) (reached file) j (omega (arith, reached_long)) refl))
 
   -- all m targets
-  targets-long : length (targets_of (graph_of file)) ≡ m
-  targets-long = graph-edges file (scanned-bounded s.scanned) (chained_partitioned s) ∙ sym s.scanned.sized.edges
+  targets_long : length (targets_of (graph_of file)) ≡ m
+  targets_long = graph_edges file (scanned_bounded s.scanned) (chained_partitioned s) ∙ sym s.scanned.sized.edges
 
   -- the target at a place is that of the record reached there
   target_at : (j : ℕ) → j < m → get_or (targets_of (graph_of file)) j 0 ≡ target file (get_or (reached file) j 0)
-  target_at j h = rw (graph-targets file) (map_at (target file) (reached file) j 0 0 (omega (arith, reached-long)))
+  target_at j h = rw (graph_targets file) (map_at (target file) (reached file) j 0 0 (omega (arith, reached_long)))
 
   -- the rank of record i + 1, and the record's place among those reached
   record RankOf (i : ℕ) : Type 0 where
@@ -67,27 +67,27 @@ module _ {file : List ℕ} {n m : ℕ} {marks : List ℕ} (s : Chained file n m)
   -- each record has one
   rank_of : (i : ℕ) → i < m → RankOf i
   rank_of i h =
-      let known = lacks-elem (numbers_from 1 (edge_count file)) (reached file) (chained_partitioned s).each (i + 1)
+      let known = lacks_elem (numbers_from 1 (edge_count file)) (reached file) (chained_partitioned s).each (i + 1)
       (range_elem (i + 1) 1 (edge_count file) (omega arith) (omega (arith, s.scanned.sized.edges))) in
-      let p = elem-place (i + 1) (reached file) known in
+      let p = elem_place (i + 1) (reached file) known in
       let here : get_or (reached file) p.place 0 - 1 ≡ i = omega (arith, p.is) in
-      record { place = p.place; below = omega (arith, p.there, reached-long); is = p.is; rank = rw here at (r.ranks p.place p.there) }
+      record { place = p.place; below = omega (arith, p.there, reached_long); is = p.is; rank = rw here at (r.ranks p.place p.there) }
 
   -- each rank is one of 1 to m
-  pub rank-within : (i : ℕ) → i < m → (1 ≤ get_or marks i 0) × (get_or marks i 0 ≤ m)
-  rank-within i h = let k = rank_of i h in omega (arith, k.rank, k.below)
+  pub rank_within : (i : ℕ) → i < m → (1 ≤ get_or marks i 0) × (get_or marks i 0 ≤ m)
+  rank_within i h = let k = rank_of i h in omega (arith, k.rank, k.below)
 
   -- none is written yet
-  pub targets-start : (old : List ℕ) → Targets file old old 0
-  targets-start old =
-      laid_none (targets_of (graph_of file)) old (λ j. get_or (reached file) j 0 ≤ 0) (λ j h d. omega (arith, reached-at j (omega (arith, targets-long))))
+  pub targets_start : (old : List ℕ) → Targets file old old 0
+  targets_start old =
+      laid_none (targets_of (graph_of file)) old (λ j. get_or (reached file) j 0 ≤ 0) (λ j h d. omega (arith, reached_at j (omega (arith, targets_long))))
 
   -- a record that is not at the place of record i + 1 is another one
   apart : (i : ℕ) (h : i < m) (j : ℕ) → j < m → (j ≡ (rank_of i h).place → ⊥) → get_or (reached file) j 0 ≡ i + 1 → ⊥
   apart i h j b other same =
       let k = rank_of i h in
       let here : get_or (reached file) j 0 - 1 ≡ i = omega arith in
-      other (omega (arith, k.rank, rw here at (r.ranks j (omega (arith, reached-long)))))
+      other (omega (arith, k.rank, rw here at (r.ranks j (omega (arith, reached_long)))))
 
   -- the target of the next record goes where its rank says
   pub targets_next : {old list : List ℕ} {i rank x : ℕ} → Targets file old list i → m ≤ length old → i < m → rank ≡ get_or marks i 0 → x ≡ target file (i + 1)
@@ -96,64 +96,64 @@ module _ {file : List ℕ} {n m : ℕ} {marks : List ℕ} (s : Chained file n m)
       let k = rank_of i h in
       let same : k.place ≡ rank - 1 = omega (arith, k.rank) in
       rw same at (laid_more (targets_of (graph_of file)) old list (λ j. get_or (reached file) j 0 ≤ i) (λ j. get_or (reached file) j 0 ≤ i + 1) w
-      (omega (arith, targets-long)) (omega (arith, targets-long, k.below)) (f ∙ sym (target_at k.place k.below ∙ ap (target file) k.is))
-      (λ j b d other. let c : j < m = omega (arith, targets-long) in let z = apart i h j c other in omega arith))
+      (omega (arith, targets_long)) (omega (arith, targets_long, k.below)) (f ∙ sym (target_at k.place k.below ∙ ap (target file) k.is))
+      (λ j b d other. let c : j < m = omega (arith, targets_long) in let z = apart i h j c other in omega arith))
 
   -- all are written
-  pub targets-done : {old list : List ℕ} {i : ℕ} → Targets file old list i → m ≤ length old → m ≤ i → list ≡ overlay (targets_of (graph_of file)) old
-  targets-done {old} {list} {i} w room h =
-      laid-all (targets_of (graph_of file)) old list (λ j. get_or (reached file) j 0 ≤ i) w (omega (arith, targets-long))
-      (λ j b. omega (arith, reached-at j (omega (arith, targets-long))))
+  pub targets_done : {old list : List ℕ} {i : ℕ} → Targets file old list i → m ≤ length old → m ≤ i → list ≡ overlay (targets_of (graph_of file)) old
+  targets_done {old} {list} {i} w room h =
+      laid_all (targets_of (graph_of file)) old list (λ j. get_or (reached file) j 0 ≤ i) w (omega (arith, targets_long))
+      (λ j b. omega (arith, reached_at j (omega (arith, targets_long))))
 
   -- all n rows
   rows_long : length (graph_of file) ≡ n
-  rows_long = length-graph file ∙ sym s.scanned.sized.vertices
+  rows_long = length_graph file ∙ sym s.scanned.sized.vertices
 
   -- all n + 1 offsets
-  offsets-long : length (offsets_of (graph_of file)) ≡ suc n
-  offsets-long = length-offsets (graph_of file) ∙ ap suc rows_long
+  offsets_long : length (offsets_of (graph_of file)) ≡ suc n
+  offsets_long = length_offsets (graph_of file) ∙ ap suc rows_long
 
   -- the last one is m
-  pub offset-last : m ≡ get_or (offsets_of (graph_of file)) n 0
-  offset-last = sym ((rw rows_long at (last-offset (graph_of file))) ∙ targets-long)
+  pub offset_last : m ≡ get_or (offsets_of (graph_of file)) n 0
+  offset_last = sym ((rw rows_long at (last_offset (graph_of file))) ∙ targets_long)
 
   -- a row starts at the rank of its head
-  pub offset-some : (u : ℕ) → u < n → (head_index file u ≡ 0 → ⊥) → get_or marks (head_index file u - 1) 0 ≡ get_or (offsets_of (graph_of file)) u 0 + 1
+  pub offset_some : (u : ℕ) → u < n → (head_index file u ≡ 0 → ⊥) → get_or marks (head_index file u - 1) 0 ≡ get_or (offsets_of (graph_of file)) u 0 + 1
   unfolding reached
-  offset-some u h some =
+  offset_some u h some =
       let b : u < vertex_count file = omega (arith, s.scanned.sized.vertices) in
-      let row = chain-at file u b ∙ chain-step file (edge_count file) (head_index file u) some in
-      let p = row-start (chains file) 0 u (head_index file u) _ row in
+      let row = chain_at file u b ∙ chain_step file (edge_count file) (head_index file u) some in
+      let p = row_start (chains file) 0 u (head_index file u) _ row in
       let mark = rw p.is at (r.ranks p.place p.below) in
-      rw (offsets-chains file) (omega (arith, p.offset))
+      rw (offsets_chains file) (omega (arith, p.offset))
 
   -- an empty one where the next row does
-  pub offset-none : (u : ℕ) → u < n → head_index file u ≡ 0 → get_or (offsets_of (graph_of file)) u 0 ≡ get_or (offsets_of (graph_of file)) (suc u) 0
-  offset-none u h none =
+  pub offset_none : (u : ℕ) → u < n → head_index file u ≡ 0 → get_or (offsets_of (graph_of file)) u 0 ≡ get_or (offsets_of (graph_of file)) (suc u) 0
+  offset_none u h none =
       let b : u < vertex_count file = omega (arith, s.scanned.sized.vertices) in
-      let row = chain-at file u b ∙ ap (chain file (suc (edge_count file))) none ∙ chain-end file (suc (edge_count file)) in
-      rw (offsets-chains file) (row-none (chains file) 0 u (rw (length-chains file) b) row)
+      let row = chain_at file u b ∙ ap (chain file (suc (edge_count file))) none ∙ chain_end file (suc (edge_count file)) in
+      rw (offsets_chains file) (row_none (chains file) 0 u (rw (length_chains file) b) row)
 
   -- none is written yet
-  pub offsets-start : (old : List ℕ) → Offsets file old old n
-  offsets-start old = laid_none (offsets_of (graph_of file)) old (λ j. n < j) (λ j h d. omega (arith, offsets-long))
+  pub offsets_start : (old : List ℕ) → Offsets file old old n
+  offsets_start old = laid_none (offsets_of (graph_of file)) old (λ j. n < j) (λ j h d. omega (arith, offsets_long))
 
   -- with the vertex's own
   stored : {old list : List ℕ} {vertex x : ℕ} → Offsets file old list vertex → n + 1 ≤ length old → vertex ≤ n → x ≡ get_or (offsets_of (graph_of file)) vertex 0
       → Laid (offsets_of (graph_of file)) old (set list vertex x) (λ j. vertex ≤ j)
   stored {old} {list} {vertex} w room h e =
-      laid_more (offsets_of (graph_of file)) old list (λ j. vertex < j) (λ j. vertex ≤ j) w (omega (arith, offsets-long)) (omega (arith, offsets-long)) e
+      laid_more (offsets_of (graph_of file)) old list (λ j. vertex < j) (λ j. vertex ≤ j) w (omega (arith, offsets_long)) (omega (arith, offsets_long)) e
       (λ j b d other. omega arith)
 
   -- the one before it is next
-  pub offsets-next : {old list : List ℕ} {vertex x : ℕ} → Offsets file old list vertex → n + 1 ≤ length old → vertex ≤ n
+  pub offsets_next : {old list : List ℕ} {vertex x : ℕ} → Offsets file old list vertex → n + 1 ≤ length old → vertex ≤ n
       → x ≡ get_or (offsets_of (graph_of file)) vertex 0 → (vertex ≡ 0 → ⊥) → Offsets file old (set list vertex x) (vertex - 1)
-  offsets-next {old} {list} {vertex} {x} w room h e some =
+  offsets_next {old} {list} {vertex} {x} w room h e some =
       let l = stored w room h e in
       record { long = l.long; rest = l.rest; there = λ j b d. l.there j b (omega arith) }
 
   -- all are written
-  pub offsets-done : {old list : List ℕ} {vertex x : ℕ} → Offsets file old list vertex → n + 1 ≤ length old → vertex ≤ n
+  pub offsets_done : {old list : List ℕ} {vertex x : ℕ} → Offsets file old list vertex → n + 1 ≤ length old → vertex ≤ n
       → x ≡ get_or (offsets_of (graph_of file)) vertex 0 → vertex ≡ 0 → set list vertex x ≡ overlay (offsets_of (graph_of file)) old
-  offsets-done {old} {list} {vertex} {x} w room h e first =
-      laid-all (offsets_of (graph_of file)) old (set list vertex x) (λ j. vertex ≤ j) (stored w room h e) (omega (arith, offsets-long)) (λ j b. omega arith)
+  offsets_done {old} {list} {vertex} {x} w room h e first =
+      laid_all (offsets_of (graph_of file)) old (set list vertex x) (λ j. vertex ≤ j) (stored w room h e) (omega (arith, offsets_long)) (λ j b. omega arith)

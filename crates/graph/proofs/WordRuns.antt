@@ -18,36 +18,36 @@ pub record Passing (file : List ℕ) (place stride count start i found : ℕ) : 
   pub whole : max start (largest (words_at file place stride count)) ≡ max found (largest (words_at file (place + stride * i) stride (count - i)))
 
 module _ (file : List ℕ) (place stride count start : ℕ) where
-  pub pass-start : Passing file place stride count start 0 start
-  pass-start = record { whole = rw (mul-zero stride, add-zero place, sub-zero count) }
+  pub pass_start : Passing file place stride count start 0 start
+  pass_start = record { whole = rw (mul-zero stride, add-zero place, sub-zero count) }
 
   -- one word more
-  pub pass-word : {i at found w larger : ℕ} → Passing file place stride count start i found → i < count → w ≡ word file at → at ≡ place + stride * i
+  pub pass_word : {i at found w larger : ℕ} → Passing file place stride count start i found → i < count → w ≡ word file at → at ≡ place + stride * i
       → larger ≡ max found w → Passing file place stride count start (i + 1) larger
   unfolding largest words_at
-  pass-word {i} p h w e f =
+  pass_word {i} p h w e f =
       let left : count - i ≡ suc (count - (i + 1)) = omega arith in
       let behind : place + stride * i + stride ≡ place + stride * (i + 1) = omega (arith, mul-suc stride i, ap (λ (k : ℕ). stride * k) (add-one i)) in
       record { whole = omega (arith, rw (left, behind, ← e) at p.whole) }
 
   -- none is left
-  pub pass-end : {i found : ℕ} → Passing file place stride count start i found → count ≤ i → found ≡ max start (largest (words_at file place stride count))
+  pub pass_end : {i found : ℕ} → Passing file place stride count start i found → count ≤ i → found ≡ max start (largest (words_at file place stride count))
   unfolding largest words_at
-  pass-end {i} {found} p h = let none : count - i ≡ 0 = omega arith in omega (arith, rw none at p.whole)
+  pass_end {i} {found} p h = let none : count - i ≡ 0 = omega arith in omega (arith, rw none at p.whole)
 
 -- a run of words has so many
-pub length-words : (file : List ℕ) (place stride count : ℕ) → length (words_at file place stride count) ≡ count
+pub length_words : (file : List ℕ) (place stride count : ℕ) → length (words_at file place stride count) ≡ count
 unfolding words_at
-length-words file place stride zero = refl
-length-words file place stride (suc count) = ap suc (length-words file (place + stride) stride count)
+length_words file place stride zero = refl
+length_words file place stride (suc count) = ap suc (length_words file (place + stride) stride count)
 
 -- the word at a place of a run of adjacent ones
-pub word-run : (file : List ℕ) (place count i : ℕ) → i < count → get_or (words_at file place 1 count) i 0 ≡ word file (place + i)
+pub word_run : (file : List ℕ) (place count i : ℕ) → i < count → get_or (words_at file place 1 count) i 0 ≡ word file (place + i)
 unfolding words_at
-word-run file place zero i h = absurd (omega arith)
-word-run file place (suc count) zero h = ap (word file) (sym (add-zero place))
-word-run file place (suc count) (suc i) h =
-    word-run file (place + 1) count i (omega arith) ∙ ap (word file) (let same : place + 1 + i ≡ place + suc i = omega arith in same)
+word_run file place zero i h = absurd (omega arith)
+word_run file place (suc count) zero h = ap (word file) (sym (add-zero place))
+word_run file place (suc count) (suc i) h =
+    word_run file (place + 1) count i (omega arith) ∙ ap (word file) (let same : place + 1 + i ≡ place + suc i = omega arith in same)
 
 -- a word of the first k bytes is a word of all
 pub part_word : (a k : ℕ) (l : List ℕ) (i : ℕ) → a + (2 * i + 1) < k → word (drop a (take k l)) i ≡ word (drop a l) i

@@ -57,7 +57,8 @@ chain file steps r = chain_from (next file) steps r
 
 -- the chain of each vertex. m + 1 steps are enough: a chain of more than m records meets one of them twice (§2.3)
 unfoldable pub chains : List ℕ → List (List ℕ)
-chains file = map (λ (u : ℕ). chain file (suc (edge_count file)) (head_index file u)) (numbers_from 0 (vertex_count file))
+chains file =
+    map (λ (u : ℕ). chain file (suc (edge_count file)) (head_index file u)) (numbers_from 0 (vertex_count file))
 
 -- the records reached from the heads, vertex by vertex, in chain order (§2.6)
 unfoldable pub reached : List ℕ → List ℕ

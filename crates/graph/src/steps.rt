@@ -12,6 +12,9 @@ ghost use Rattle.graph.specs.Steps.{file_answer, Sized, Scanned, Chained, Ranked
 use crate::ReadAnswer;
 use crate::words::{element, larger, largest_word, wide16, word, word16};
 
+// The bytes of n and m, which every file begins with.
+const HEADER_BYTES: usize = 4;
+
 // Zeros beside a refusal's number.
 pub fn refused(number: usize) -> ReadAnswer
     ensures { result ≡ refusal_answer number }
@@ -44,7 +47,7 @@ pub fn outside_sizes(n: usize, m: usize) -> bool
 pub fn examine(file: &[u8]) -> ReadAnswer
     ensures { result ≡ file_answer file.now }
 {
-    if file.len() < 4 {
+    if file.len() < HEADER_BYTES {
         return refused(numbers::BAD_LENGTH);
     }
     let n = word(file, 0);
@@ -125,7 +128,8 @@ pub fn unchain(
 {
     lists::clear(marks, m);
     let number = rank(file, n, m, marks);
-    if number == numbers::SUCCESS {
+    let whole = number == numbers::SUCCESS;
+    if whole {
         write_targets(file, n, m, marks, targets);
         write_offsets(file, n, m, marks, offsets);
     }

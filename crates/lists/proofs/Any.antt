@@ -7,7 +7,7 @@ use native.Mathlib.Omega.{arith}
 use lib.ListN.{length, get_or}
 use Rattle.lists.specs.Lists.{numbers_from, elem, any_of}
 use Rattle.lists.proofs.Or.{or_none, none_or}
-use Rattle.lists.proofs.Tests.{elem-first, elem-later, elem_cases, length_range, get_or_range}
+use Rattle.lists.proofs.Tests.{elem_first, elem_later, elem_cases, length_range, get_or_range}
 
 -- a test that holds of no element fails at each place
 pub any_at_lem : {A : Type 0} (f : A → Bool) (l : List A) (i : ℕ) (d : A) → any_of f l ≡ false → i < length l → f (get_or l i d) ≡ false
@@ -42,15 +42,15 @@ pub record PlaceOf (x : ℕ) (l : List ℕ) : Type 0 where
   pub is : get_or l place 0 ≡ x
 
 -- a number that stands in a list has a place there
-pub elem-place : (x : ℕ) (l : List ℕ) → elem x l ≡ true → PlaceOf x l
+pub elem_place : (x : ℕ) (l : List ℕ) → elem x l ≡ true → PlaceOf x l
 unfolding elem
-elem-place x [] e = absurd (true≢false (sym e))
-elem-place x (y ∷ l) e = elem_cases x y l e
+elem_place x [] e = absurd (true≢false (sym e))
+elem_place x (y ∷ l) e = elem_cases x y l e
     (λ (q : x ≡ y). record { place = 0; there = omega arith; is = sym q })
-    (λ (f : elem x l ≡ true). let p = elem-place x l f in record { place = suc p.place; there = omega (arith, p.there); is = p.is })
+    (λ (f : elem x l ≡ true). let p = elem_place x l f in record { place = suc p.place; there = omega (arith, p.there); is = p.is })
 
 -- and the other way
-pub place-elem : (x : ℕ) (l : List ℕ) (i : ℕ) → i < length l → get_or l i 0 ≡ x → elem x l ≡ true
-place-elem x [] i h e = absurd (omega arith)
-place-elem x (y ∷ l) zero h e = rw e (elem-first x l)
-place-elem x (y ∷ l) (suc i) h e = elem-later x y l (place-elem x l i (omega arith) e)
+pub place_elem : (x : ℕ) (l : List ℕ) (i : ℕ) → i < length l → get_or l i 0 ≡ x → elem x l ≡ true
+place_elem x [] i h e = absurd (omega arith)
+place_elem x (y ∷ l) zero h e = rw e (elem_first x l)
+place_elem x (y ∷ l) (suc i) h e = elem_later x y l (place_elem x l i (omega arith) e)

@@ -8,16 +8,16 @@ use Rattle.lists.specs.Lists.{chain_from}
 
 module _ (next : ℕ → ℕ) where
   -- a chain ends at 0
-  pub chain-none : (steps : ℕ) → chain_from next steps 0 ≡ []
+  pub chain_none : (steps : ℕ) → chain_from next steps 0 ≡ []
   unfolding chain_from
-  chain-none zero = refl
-  chain-none (suc steps) = refl
+  chain_none zero = refl
+  chain_none (suc steps) = refl
 
   -- and goes on at any other number
-  pub chain-some : (steps x : ℕ) → (x ≡ 0 → ⊥) → chain_from next (suc steps) x ≡ x ∷ chain_from next steps (next x)
+  pub chain_some : (steps x : ℕ) → (x ≡ 0 → ⊥) → chain_from next (suc steps) x ≡ x ∷ chain_from next steps (next x)
   unfolding chain_from
-  chain-some steps zero h = absurd (h refl)
-  chain-some steps (suc x) h = refl
+  chain_some steps zero h = absurd (h refl)
+  chain_some steps (suc x) h = refl
 
   -- a chain that ends before its steps do is the same with more steps
   pub chain_longer : (steps more x : ℕ) → length (chain_from next steps x) < steps → steps ≤ more → chain_from next more x ≡ chain_from next steps x

@@ -16,13 +16,13 @@ flatten_append [] b = refl
 flatten_append (x ∷ a) b = rw (flatten_append a b) (sym (append_assoc x (flatten a) (flatten b)))
 
 -- one list
-pub flatten-one : {A : Type 0} (x : List A) → flatten (x ∷ []) ≡ x
+pub flatten_one : {A : Type 0} (x : List A) → flatten (x ∷ []) ≡ x
 unfolding flatten
-flatten-one x = append-nil x
+flatten_one x = append-nil x
 
 -- one more behind others
-pub flatten-more : {A : Type 0} (l : List (List A)) (x : List A) → flatten (l ++ (x ∷ [])) ≡ flatten l ++ x
-flatten-more {A} l x = flatten_append l (x ∷ []) ∙ ap (λ (rest : List A). flatten l ++ rest) (flatten-one x)
+pub flatten_more : {A : Type 0} (l : List (List A)) (x : List A) → flatten (l ++ (x ∷ [])) ≡ flatten l ++ x
+flatten_more {A} l x = flatten_append l (x ∷ []) ∙ ap (λ (rest : List A). flatten l ++ rest) (flatten_one x)
 
 -- Pieces.
 
@@ -65,10 +65,10 @@ each_at size (piece ∷ rest) (suc i) j d h below within =
     rw later (get_or-append-add piece (flatten rest) (size * i + j) d ∙ each_at size rest i j d h.1 (omega arith) within)
 
 -- all their places
-pub length-each : {A : Type 0} (size : ℕ) (l : List (List A)) → Each size l → length (flatten l) ≡ size * length l
+pub length_each : {A : Type 0} (size : ℕ) (l : List (List A)) → Each size l → length (flatten l) ≡ size * length l
 unfolding flatten
-length-each size [] h = omega (arith, mul-zero size)
-length-each size (piece ∷ rest) h = omega (arith, length-each size rest h.1, mul-suc size (length rest), length-append piece (flatten rest))
+length_each size [] h = omega (arith, mul-zero size)
+length_each size (piece ∷ rest) h = omega (arith, length_each size rest h.1, mul-suc size (length rest), length-append piece (flatten rest))
 
 -- nothing has no piece
 pub chunks_nil : {A : Type 0} (size count : ℕ) → chunks_in {A = A} size count [] ≡ []
@@ -77,25 +77,25 @@ chunks_nil size zero = refl
 chunks_nil size (suc count) = refl
 
 -- anything else has a first piece, and the pieces of what is left
-pub chunks-first : {A : Type 0} (size count : ℕ) (l : List A) → 1 ≤ length l
+pub chunks_first : {A : Type 0} (size count : ℕ) (l : List A) → 1 ≤ length l
     → chunks_in size (suc count) l ≡ take size l ∷ chunks_in size count (drop size l)
 unfolding chunks_in
-chunks-first size count [] h = absurd (omega arith)
-chunks-first size count (x ∷ l) h = refl
+chunks_first size count [] h = absurd (omega arith)
+chunks_first size count (x ∷ l) h = refl
 
 module _ {A : Type 0} (size : ℕ) (some : 1 ≤ size) where
   -- what is left behind the first piece is shorter
-  rest-short : (count : ℕ) (x : A) (l : List A) → length (x ∷ l) ≤ suc count → length (drop size (x ∷ l)) ≤ count
-  rest-short count x l h = omega (arith, length-drop size (x ∷ l))
+  rest_short : (count : ℕ) (x : A) (l : List A) → length (x ∷ l) ≤ suc count → length (drop size (x ∷ l)) ≤ count
+  rest_short count x l h = omega (arith, length-drop size (x ∷ l))
 
   -- room for more pieces than there are places changes nothing
-  pub chunks-more : (count : ℕ) (l : List A) → length l ≤ count → chunks_in size (suc count) l ≡ chunks_in size count l
+  pub chunks_more : (count : ℕ) (l : List A) → length l ≤ count → chunks_in size (suc count) l ≡ chunks_in size count l
   unfolding chunks_in
-  chunks-more zero [] h = refl
-  chunks-more zero (x ∷ l) h = absurd (omega arith)
-  chunks-more (suc count) [] h = refl
-  chunks-more (suc count) (x ∷ l) h =
-      ap (λ (pieces : List (List A)). take size (x ∷ l) ∷ pieces) (chunks-more count (drop size (x ∷ l)) (rest-short count x l h))
+  chunks_more zero [] h = refl
+  chunks_more zero (x ∷ l) h = absurd (omega arith)
+  chunks_more (suc count) [] h = refl
+  chunks_more (suc count) (x ∷ l) h =
+      ap (λ (pieces : List (List A)). take size (x ∷ l) ∷ pieces) (chunks_more count (drop size (x ∷ l)) (rest_short count x l h))
 
   -- the pieces laid end to end are the list
   flatten_in : (count : ℕ) (l : List A) → length l ≤ count → flatten (chunks_in size count l) ≡ l
@@ -104,12 +104,12 @@ module _ {A : Type 0} (size : ℕ) (some : 1 ≤ size) where
   flatten_in zero (x ∷ l) h = absurd (omega arith)
   flatten_in (suc count) [] h = refl
   flatten_in (suc count) (x ∷ l) h =
-      ap (λ (rest : List A). take size (x ∷ l) ++ rest) (flatten_in count (drop size (x ∷ l)) (rest-short count x l h))
+      ap (λ (rest : List A). take size (x ∷ l) ++ rest) (flatten_in count (drop size (x ∷ l)) (rest_short count x l h))
       ∙ take-append-drop size (x ∷ l)
 
-  pub flatten-chunks : (l : List A) → flatten (chunks size l) ≡ l
+  pub flatten_chunks : (l : List A) → flatten (chunks size l) ≡ l
   unfolding chunks
-  flatten-chunks l = flatten_in (length l) l (omega arith)
+  flatten_chunks l = flatten_in (length l) l (omega arith)
 
   -- a piece before the pieces of what is left
   cut_cons : (count : ℕ) (piece rest : List A) → 1 ≤ length piece → length piece ≤ size → (1 ≤ length rest → length piece ≡ size)
@@ -130,7 +130,7 @@ module _ {A : Type 0} (size : ℕ) (some : 1 ≤ size) where
       let whole : List A = x ∷ l in
       let rest : List A = drop size whole in
       let front = length-take size whole in
-      let short = rest-short count x l h in
+      let short = rest_short count x l h in
       cut_cons count (take size whole) rest (omega (arith, front)) (omega (arith, front))
       (λ (left : 1 ≤ length rest). omega (arith, front, length-drop size whole)) short (cut_in count rest short)
 
@@ -147,7 +147,7 @@ module _ {A : Type 0} (size : ℕ) (some : 1 ≤ size) where
   chunks_in_lem (suc count) (last {piece = piece} a b) h =
       let whole : piece ++ [] ≡ piece = append-nil piece in
       ap (λ (l : List A). chunks_in size (suc count) l) whole
-      ∙ chunks-first size count piece a
+      ∙ chunks_first size count piece a
       ∙ (λ i. take_all size piece b i ∷ chunks_in size count (drop_of_length-le piece b i))
       ∙ ap (λ (rest : List (List A)). piece ∷ rest) (chunks_nil size count)
   chunks_in_lem zero (more {piece = piece} {next = next} {pieces = pieces} e r) h =
@@ -155,13 +155,13 @@ module _ {A : Type 0} (size : ℕ) (some : 1 ≤ size) where
   chunks_in_lem (suc count) (more {piece = piece} {next = next} {pieces = pieces} e r) h =
       let rest : List A = flatten (next ∷ pieces) in
       let both = length-append piece rest in
-      chunks-first size count (piece ++ rest) (omega (arith, both))
+      chunks_first size count (piece ++ rest) (omega (arith, both))
       ∙ (λ i. take_at piece rest size e i ∷ chunks_in size count (drop_at piece rest size e i))
       ∙ ap (λ (l : List (List A)). piece ∷ l) (chunks_in_lem count r (omega (arith, both)))
 
-  pub chunks-flatten : {pieces : List (List A)} → Cut size pieces → chunks size (flatten pieces) ≡ pieces
+  pub chunks_flatten : {pieces : List (List A)} → Cut size pieces → chunks size (flatten pieces) ≡ pieces
   unfolding chunks
-  chunks-flatten {pieces} c = chunks_in_lem (length (flatten pieces)) c (omega arith)
+  chunks_flatten {pieces} c = chunks_in_lem (length (flatten pieces)) c (omega arith)
 
   -- how many there are: enough for all, and not one too many
   pub cut_count : {pieces : List (List A)} → Cut size pieces

@@ -9,7 +9,7 @@ use mathlib.Core.Logic.{◌⊎◌, inl, inr}
 use Prim.Native.Nat.{ℕ, ◌<◌}
 use native.Mathlib.Omega.{arith}
 use Rattle.lists.specs.Lists.{numbers_from, elem}
-use Rattle.lists.proofs.Tests.{elem-first, elem-later, elem_cases, elem_range, range_elem}
+use Rattle.lists.proofs.Tests.{elem_first, elem_later, elem_cases, elem_range, range_elem}
 
 -- the elements that pass a test, in order (the library's `filter` goes by a decision, and its membership is truncated)
 pub keep : {A : Type 0} → (A → Bool) → List A → List A
@@ -83,8 +83,8 @@ elem_in x (y ∷ l) e = elem_cases x y l e (λ (q : x ≡ y). Memᴰ.head q) (λ
 
 -- and the other way
 in_elem : {x : ℕ} {l : List ℕ} → Memᴰ x l → elem x l ≡ true
-in_elem (Memᴰ.head {x = y} {xs = l} s) = rw s (elem-first y l)
-in_elem {x} (Memᴰ.tail {x = y} {xs = l} m) = elem-later x y l (in_elem m)
+in_elem (Memᴰ.head {x = y} {xs = l} s) = rw s (elem_first y l)
+in_elem {x} (Memᴰ.tail {x = y} {xs = l} m) = elem_later x y l (in_elem m)
 
 -- a number below n is in the range
 pub range_in : {i n : ℕ} → i < n → Memᴰ i (numbers_from 0 n)

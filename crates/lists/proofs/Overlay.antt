@@ -17,27 +17,27 @@ not_in_nil : {A : Type 0} {i : ℕ} → i < 0 → A
 not_in_nil h = absurd (not-suc-le-zero h)
 
 -- a list whose first i places are written, with one store more
-pub overlay-suc : (new old : List ℕ) (i : ℕ) → i < length new → i < length old
+pub overlay_suc : (new old : List ℕ) (i : ℕ) → i < length new → i < length old
     → set (overlay (take i new) old) i (get_or new i 0) ≡ overlay (take (suc i) new) old
 unfolding overlay
-overlay-suc [] old i h k = not_in_nil h
-overlay-suc (x ∷ new) [] i h k = not_in_nil k
-overlay-suc (x ∷ new) (y ∷ old) zero h k = refl
-overlay-suc (x ∷ new) (y ∷ old) (suc i) h k = ap (λ (l : List ℕ). x ∷ l) (overlay-suc new old i (le_of_suc-le-suc h) (le_of_suc-le-suc k))
+overlay_suc [] old i h k = not_in_nil h
+overlay_suc (x ∷ new) [] i h k = not_in_nil k
+overlay_suc (x ∷ new) (y ∷ old) zero h k = refl
+overlay_suc (x ∷ new) (y ∷ old) (suc i) h k = ap (λ (l : List ℕ). x ∷ l) (overlay_suc new old i (le_of_suc-le-suc h) (le_of_suc-le-suc k))
 
 -- the same for a loop that stores x at i
 pub overlay_store : (new old : List ℕ) {list : List ℕ} {i x : ℕ} → list ≡ overlay (take i new) old → x ≡ get_or new i 0 → i < length new → i < length old
     → set list i x ≡ overlay (take (i + 1) new) old
-overlay_store new old {list} {i} {x} e v h k = rw (e, v, add-one) (overlay-suc new old i h k)
+overlay_store new old {list} {i} {x} e v h k = rw (e, v, add-one) (overlay_suc new old i h k)
 
 -- all places are written
-pub overlay-all : (new old : List ℕ) (i : ℕ) → length new ≤ i → overlay (take i new) old ≡ overlay new old
-overlay-all new old i h = rw (take_all i new h)
+pub overlay_all : (new old : List ℕ) (i : ℕ) → length new ≤ i → overlay (take i new) old ≡ overlay new old
+overlay_all new old i h = rw (take_all i new h)
 
 -- the places past the new ones are the old ones
-pub drop-overlay : (new old : List ℕ) (n : ℕ) → length new ≤ n → drop n (overlay new old) ≡ drop n old
+pub drop_overlay : (new old : List ℕ) (n : ℕ) → length new ≤ n → drop n (overlay new old) ≡ drop n old
 unfolding overlay
-drop-overlay new old n h =
+drop_overlay new old n h =
     let more : n ≡ length new + (n - length new) = omega arith in
     ap (λ (k : ℕ). drop k (new ++ drop (length new) old)) more
     ∙ drop-append-add new (drop (length new) old) (n - length new)
@@ -45,44 +45,44 @@ drop-overlay new old n h =
     ∙ ap (λ (k : ℕ). drop k old) (sym more)
 
 -- what is laid over a list depends on those places alone
-pub overlay-kept : (new old other : List ℕ) → drop (length new) other ≡ drop (length new) old → overlay new other ≡ overlay new old
+pub overlay_kept : (new old other : List ℕ) → drop (length new) other ≡ drop (length new) old → overlay new other ≡ overlay new old
 unfolding overlay
-overlay-kept new old other e = ap (λ (rest : List ℕ). new ++ rest) e
+overlay_kept new old other e = ap (λ (rest : List ℕ). new ++ rest) e
 
 -- so it forgets a shorter list that was laid over it before
-pub overlay-again : (new other old : List ℕ) → length other ≤ length new → overlay new (overlay other old) ≡ overlay new old
-overlay-again new other old h = overlay-kept new old (overlay other old) (drop-overlay other old (length new) h)
+pub overlay_again : (new other old : List ℕ) → length other ≤ length new → overlay new (overlay other old) ≡ overlay new old
+overlay_again new other old h = overlay_kept new old (overlay other old) (drop_overlay other old (length new) h)
 
 -- and may be laid over it again
-pub overlay-here : (new old : List ℕ) {list : List ℕ} → list ≡ overlay new old → list ≡ overlay new list
-overlay-here new old e = e ∙ sym (overlay-again new new old (le_refl (length new))) ∙ ap (overlay new) (sym e)
+pub overlay_here : (new old : List ℕ) {list : List ℕ} → list ≡ overlay new old → list ≡ overlay new list
+overlay_here new old e = e ∙ sym (overlay_again new new old (le_refl (length new))) ∙ ap (overlay new) (sym e)
 
 -- zeros laid over a list
-pub overlay-zeros : (m : ℕ) (old : List ℕ) (i : ℕ) → i < m → get_or (overlay (replicate m 0) old) i 0 ≡ 0
+pub overlay_zeros : (m : ℕ) (old : List ℕ) (i : ℕ) → i < m → get_or (overlay (replicate m 0) old) i 0 ≡ 0
 unfolding overlay
-overlay-zeros m old i h =
+overlay_zeros m old i h =
     let zeros : List ℕ = replicate m 0 in
     get_or-append zeros (drop (length zeros) old) 0 i (rw length-replicate h) ∙ get_or-replicate m i 0 0 h
 
 -- a list has the places that were written over it
-pub overlay-long : (new old : List ℕ) → length new ≤ length (overlay new old)
+pub overlay_long : (new old : List ℕ) → length new ≤ length (overlay new old)
 unfolding overlay
-overlay-long new old = omega (arith, length-append new (drop (length new) old))
+overlay_long new old = omega (arith, length-append new (drop (length new) old))
 
 -- and begins with them
-pub overlay-front : (new old : List ℕ) (n : ℕ) → length new ≡ n → take n (overlay new old) ≡ new
+pub overlay_front : (new old : List ℕ) (n : ℕ) → length new ≡ n → take n (overlay new old) ≡ new
 unfolding overlay
-overlay-front new old n e = take_at new (drop (length new) old) n e
+overlay_front new old n e = take_at new (drop (length new) old) n e
 
 -- and as many places as before, if what was written has room
-pub length-overlay : (new old : List ℕ) → length new ≤ length old → length (overlay new old) ≡ length old
+pub length_overlay : (new old : List ℕ) → length new ≤ length old → length (overlay new old) ≡ length old
 unfolding overlay
-length-overlay new old h = omega (arith, length-append new (drop (length new) old), length-drop (length new) old)
+length_overlay new old h = omega (arith, length-append new (drop (length new) old), length-drop (length new) old)
 
 -- a list that is written whole
-pub overlay-whole : (l : List ℕ) (x : ℕ) → overlay (replicate (length l) x) l ≡ replicate (length l) x
+pub overlay_whole : (l : List ℕ) (x : ℕ) → overlay (replicate (length l) x) l ≡ replicate (length l) x
 unfolding overlay
-overlay-whole l x =
+overlay_whole l x =
     let filled : List ℕ = replicate (length l) x in
     rw (length-replicate (length l) x, drop-length l) (append-nil filled)
 
@@ -114,10 +114,10 @@ laid_more new old list done more {p} {x} l room h e before = record {
         get_or-set_other list p j x 0 other ∙ l.there j k (before j k d other)
 
 -- all are
-pub laid-all : (new old list : List ℕ) (done : ℕ → Type 0) → Laid new old list done → length new ≤ length old → ((j : ℕ) → j < length new → done j)
+pub laid_all : (new old list : List ℕ) (done : ℕ → Type 0) → Laid new old list done → length new ≤ length old → ((j : ℕ) → j < length new → done j)
     → list ≡ overlay new old
 unfolding overlay
-laid-all new old list done l room all =
+laid_all new old list done l room all =
     let n = length new in
     let size : length (take n list) ≡ n = length-take-le n list (omega (arith, l.long)) in
     let front : take n list ≡ new =
@@ -144,4 +144,4 @@ part_cleared n old written h k e =
     let zeros : List ℕ = replicate n 0 in
     let size : length zeros ≡ n = length-replicate n 0 in
     let rest : drop n (written ++ drop n old) ≡ drop n old = drop_at written (drop n old) n (k ∙ sym (part_length n old h)) in
-    e ∙ overlay-kept zeros old (written ++ drop n old) (rw size rest)
+    e ∙ overlay_kept zeros old (written ++ drop n old) (rw size rest)

@@ -9,22 +9,22 @@ use lib.ListN.{length, get_or, set, take, drop, replicate}
 use lib.Seq.{get_or-take, get_or-drop, take_at, drop_at, take-take, set-get_or}
 
 -- a place that is set is one of the list
-pub place-below : {A : Type 0} (l : List (Option A)) (i : ℕ) {a : A} → get_or l i none ≡ some a → i < length l
-place-below [] i e = absurd (none-ne-some _ e)
-place-below (x ∷ l) zero e = omega arith
-place-below (x ∷ l) (suc i) e = omega (arith, place-below l i e)
+pub place_below : {A : Type 0} (l : List (Option A)) (i : ℕ) {a : A} → get_or l i none ≡ some a → i < length l
+place_below [] i e = absurd (none-ne-some _ e)
+place_below (x ∷ l) zero e = omega arith
+place_below (x ∷ l) (suc i) e = omega (arith, place_below l i e)
 
 -- what is repeated stands everywhere, past the end too where it is the default
-pub get_or-repeated : {A : Type 0} (n i : ℕ) (a : A) → get_or (replicate n a) i a ≡ a
-get_or-repeated zero i a = refl
-get_or-repeated (suc n) zero a = refl
-get_or-repeated (suc n) (suc i) a = get_or-repeated n i a
+pub get_or_repeated : {A : Type 0} (n i : ℕ) (a : A) → get_or (replicate n a) i a ≡ a
+get_or_repeated zero i a = refl
+get_or_repeated (suc n) zero a = refl
+get_or_repeated (suc n) (suc i) a = get_or_repeated n i a
 
 -- the first m of n places with the same value
-pub take-repeated : {A : Type 0} (m n : ℕ) (a : A) → m ≤ n → take m (replicate n a) ≡ replicate m a
-take-repeated zero n a h = refl
-take-repeated (suc m) zero a h = absurd (omega arith)
-take-repeated (suc m) (suc n) a h = ap (λ l. a ∷ l) (take-repeated m n a (omega arith))
+pub take_repeated : {A : Type 0} (m n : ℕ) (a : A) → m ≤ n → take m (replicate n a) ≡ replicate m a
+take_repeated zero n a h = refl
+take_repeated (suc m) zero a h = absurd (omega arith)
+take_repeated (suc m) (suc n) a h = ap (λ l. a ∷ l) (take_repeated m n a (omega arith))
 
 -- an element that is there is read whatever stands past the end
 pub get_d_any : {A : Type 0} (l : List A) (i : ℕ) (d e : A) → i < length l → get_or l i d ≡ get_or l i e
@@ -44,13 +44,13 @@ parts_same a b c d long same = (
 )
 
 -- a place of the second part replaced
-pub set-second : {A : Type 0} (a b : List A) (i : ℕ) (x : A) → set (a ++ b) (length a + i) x ≡ a ++ set b i x
-set-second [] b i x = ap (λ (k : ℕ). set b k x) (zero-add i)
-set-second (y ∷ a) b i x = ap (λ (k : ℕ). set (y ∷ a ++ b) k x) (suc-add (length a) i) ∙ ap (λ (l : List _). y ∷ l) (set-second a b i x)
+pub set_second : {A : Type 0} (a b : List A) (i : ℕ) (x : A) → set (a ++ b) (length a + i) x ≡ a ++ set b i x
+set_second [] b i x = ap (λ (k : ℕ). set b k x) (zero-add i)
+set_second (y ∷ a) b i x = ap (λ (k : ℕ). set (y ∷ a ++ b) k x) (suc-add (length a) i) ∙ ap (λ (l : List _). y ∷ l) (set_second a b i x)
 
 -- the first element of many that are alike, replaced by another such
 pub set_alike : {A : Type 0} (n i : ℕ) (a : A) → set (replicate n a) i a ≡ replicate n a
-set_alike n i a = ap (set (replicate n a) i) (sym (get_or-repeated n i a)) ∙ set-get_or (replicate n a) i a
+set_alike n i a = ap (set (replicate n a) i) (sym (get_or_repeated n i a)) ∙ set-get_or (replicate n a) i a
 
 -- so many places behind the first a are the same in the first k
 pub part_take : {A : Type 0} (a k m : ℕ) (l : List A) → a + m ≤ k → take m (drop a (take k l)) ≡ take m (drop a l)

@@ -86,5 +86,5 @@ pub two_later : {l : List ℕ} {a b : ℕ} (j x y : ℕ) → Two l (2 * j) a b �
 two_later j x y two = two_same (two_behind two (x ∷ y ∷ [])) (omega arith) refl refl
 
 -- a part of a list is no longer than the list
-pub length-take-most : (i : ℕ) (xs : List ℕ) → length (take i xs) ≤ length xs
-length-take-most i xs = rw (length-take i xs) (min-le_right i (length xs))
+pub length_take_most : (i : ℕ) (xs : List ℕ) → length (take i xs) ≤ length xs
+length_take_most i xs = rw (length-take i xs) (min-le_right i (length xs))

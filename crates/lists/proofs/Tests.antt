@@ -16,9 +16,9 @@ use Rattle.lists.proofs.Or.{or_none, none_or, or_second, not_so}
 use Rattle.lists.proofs.Replaced.{map_at}
 
 -- a test, counted as 0 or 1, is at most n, if n is at least 1 where it holds
-pub test-within : (b : Bool) (n : ℕ) → (b ≡ true → 1 ≤ n) → cond b 1 0 ≤ n
-test-within true n h = h refl
-test-within false n h = omega arith
+pub test_within : (b : Bool) (n : ℕ) → (b ≡ true → 1 ≤ n) → cond b 1 0 ≤ n
+test_within true n h = h refl
+test_within false n h = omega arith
 
 -- A test of lists laid end to end.
 
@@ -33,24 +33,24 @@ reaches_append limit [] b = refl
 reaches_append limit (x ∷ a) b = rw (reaches_append limit a b) (sym (or_assoc (leb limit x) (reaches limit a) (reaches limit b)))
 
 -- a row reaches no limit that the rows laid end to end do not reach
-pub reaches-row : (limit : ℕ) (rows : List (List ℕ)) (u : ℕ) → reaches limit (flatten rows) ≡ false → reaches limit (get_or rows u []) ≡ false
+pub reaches_row : (limit : ℕ) (rows : List (List ℕ)) (u : ℕ) → reaches limit (flatten rows) ≡ false → reaches limit (get_or rows u []) ≡ false
 unfolding reaches flatten
-reaches-row limit [] u h = refl
-reaches-row limit (row ∷ rows) zero h = (or_none (reaches limit row) (reaches limit (flatten rows)) (rw (reaches_append limit row (flatten rows)) at h)).0
-reaches-row limit (row ∷ rows) (suc u) h =
-    reaches-row limit rows u (or_none (reaches limit row) (reaches limit (flatten rows)) (rw (reaches_append limit row (flatten rows)) at h)).1
+reaches_row limit [] u h = refl
+reaches_row limit (row ∷ rows) zero h = (or_none (reaches limit row) (reaches limit (flatten rows)) (rw (reaches_append limit row (flatten rows)) at h)).0
+reaches_row limit (row ∷ rows) (suc u) h =
+    reaches_row limit rows u (or_none (reaches limit row) (reaches limit (flatten rows)) (rw (reaches_append limit row (flatten rows)) at h)).1
 
 -- Membership.
 
 -- the first number is in the list
-pub elem-first : (x : ℕ) (l : List ℕ) → elem x (x ∷ l) ≡ true
+pub elem_first : (x : ℕ) (l : List ℕ) → elem x (x ∷ l) ≡ true
 unfolding elem
-elem-first x l = rw (eq-eqb x x refl)
+elem_first x l = rw (eq-eqb x x refl)
 
 -- a number of the rest is in the list
-pub elem-later : (x y : ℕ) (l : List ℕ) → elem x l ≡ true → elem x (y ∷ l) ≡ true
+pub elem_later : (x y : ℕ) (l : List ℕ) → elem x l ≡ true → elem x (y ∷ l) ≡ true
 unfolding elem
-elem-later x y l e = or_second (eqb x y) (elem x l) e
+elem_later x y l e = or_second (eqb x y) (elem x l) e
 
 -- a number of the list is the first one or in the rest
 pub elem_cases : {A : Type 0} (x y : ℕ) (l : List ℕ) → elem x (y ∷ l) ≡ true → (x ≡ y → A) → (elem x l ≡ true → A) → A
@@ -62,16 +62,16 @@ elem_cases {A} x y l e here there = go (eqb x y) refl e
     go false q f = there f
 
 -- a number that is not in the list is neither the first one nor in the rest
-pub elem-none : (x y : ℕ) (l : List ℕ) → elem x (y ∷ l) ≡ false → (eqb x y ≡ false) × (elem x l ≡ false)
+pub elem_none : (x y : ℕ) (l : List ℕ) → elem x (y ∷ l) ≡ false → (eqb x y ≡ false) × (elem x l ≡ false)
 unfolding elem
-elem-none x y l e = or_none (eqb x y) (elem x l) e
+elem_none x y l e = or_none (eqb x y) (elem x l) e
 
 -- Numbers that stand once.
 
 -- the rest of a list without repeats has none, and the first number is not in it
-pub repeats-none : (x : ℕ) (l : List ℕ) → repeats (x ∷ l) ≡ false → (elem x l ≡ false) × (repeats l ≡ false)
+pub repeats_none : (x : ℕ) (l : List ℕ) → repeats (x ∷ l) ≡ false → (elem x l ≡ false) × (repeats l ≡ false)
 unfolding repeats
-repeats-none x l e = or_none (elem x l) (repeats l) e
+repeats_none x l e = or_none (elem x l) (repeats l) e
 
 -- a new number in front repeats nothing
 pub repeats_cons : (x : ℕ) (l : List ℕ) → elem x l ≡ false → repeats l ≡ false → repeats (x ∷ l) ≡ false
@@ -79,44 +79,44 @@ unfolding repeats
 repeats_cons x l e f = none_or (elem x l) (repeats l) e f
 
 -- two numbers that differ, the other way round
-pub eqb-off-sym : (x y : ℕ) → eqb x y ≡ false → eqb y x ≡ false
-eqb-off-sym x y e = ne_eqb y x (λ q. eqb-false x y e (sym q))
+pub eqb_off_sym : (x y : ℕ) → eqb x y ≡ false → eqb y x ≡ false
+eqb_off_sym x y e = ne_eqb y x (λ q. eqb-false x y e (sym q))
 
 -- a new number at the end repeats nothing
 pub repeats_append : (a : List ℕ) (x : ℕ) → repeats a ≡ false → elem x a ≡ false → repeats (a ++ x ∷ []) ≡ false
 unfolding repeats elem
 repeats_append [] x e f = refl
 repeats_append (y ∷ a) x e f =
-    let p = repeats-none y a e in
-    let q = elem-none x y a f in
-    let away : elem y (x ∷ []) ≡ false = none_or (eqb y x) false (eqb-off-sym x y q.0) refl in
+    let p = repeats_none y a e in
+    let q = elem_none x y a f in
+    let away : elem y (x ∷ []) ≡ false = none_or (eqb y x) false (eqb_off_sym x y q.0) refl in
     repeats_cons y (a ++ x ∷ []) (elem_append y a (x ∷ []) ∙ none_or (elem y a) (elem y (x ∷ [])) p.0 away) (repeats_append a x p.1 q.1)
 
 -- a number that was there before repeats, whatever follows
-pub repeats-again : (a : List ℕ) (x : ℕ) (b : List ℕ) → elem x a ≡ true → repeats (a ++ x ∷ b) ≡ true
+pub repeats_again : (a : List ℕ) (x : ℕ) (b : List ℕ) → elem x a ≡ true → repeats (a ++ x ∷ b) ≡ true
 unfolding repeats elem
-repeats-again [] x b e = absurd (true≢false (sym e))
-repeats-again (y ∷ a) x b e = elem_cases x y a e
-    (λ (q : x ≡ y). rw (elem_append y a (x ∷ b), or_second (elem y a) (elem y (x ∷ b)) (rw q (elem-first y b))))
-    (λ (f : elem x a ≡ true). or_second (elem y (a ++ x ∷ b)) (repeats (a ++ x ∷ b)) (repeats-again a x b f))
+repeats_again [] x b e = absurd (true≢false (sym e))
+repeats_again (y ∷ a) x b e = elem_cases x y a e
+    (λ (q : x ≡ y). rw (elem_append y a (x ∷ b), or_second (elem y a) (elem y (x ∷ b)) (rw q (elem_first y b))))
+    (λ (f : elem x a ≡ true). or_second (elem y (a ++ x ∷ b)) (repeats (a ++ x ∷ b)) (repeats_again a x b f))
 
 -- One list's numbers in another.
 
 -- nothing is missing: each number of the first list is in the second
-pub lacks-elem : (a b : List ℕ) → lacks a b ≡ false → (x : ℕ) → elem x a ≡ true → elem x b ≡ true
+pub lacks_elem : (a b : List ℕ) → lacks a b ≡ false → (x : ℕ) → elem x a ≡ true → elem x b ≡ true
 unfolding lacks elem
-lacks-elem [] b e x f = absurd (true≢false (sym f))
-lacks-elem (y ∷ a) b e x f =
+lacks_elem [] b e x f = absurd (true≢false (sym f))
+lacks_elem (y ∷ a) b e x f =
     let p = or_none (not (elem y b)) (lacks a b) e in
     elem_cases x y a f
     (λ (q : x ≡ y). rw q (not-false (elem y b) p.0))
-    (λ (g : elem x a ≡ true). lacks-elem a b p.1 x g)
+    (λ (g : elem x a ≡ true). lacks_elem a b p.1 x g)
 
 -- each number of the first list is in the second: nothing is missing
-pub elem-lacks : (a b : List ℕ) → ((x : ℕ) → elem x a ≡ true → elem x b ≡ true) → lacks a b ≡ false
+pub elem_lacks : (a b : List ℕ) → ((x : ℕ) → elem x a ≡ true → elem x b ≡ true) → lacks a b ≡ false
 unfolding lacks
-elem-lacks [] b h = refl
-elem-lacks (y ∷ a) b h = rw (h y (elem-first y a)) (elem-lacks a b (λ x e. h x (elem-later x y a e)))
+elem_lacks [] b h = refl
+elem_lacks (y ∷ a) b h = rw (h y (elem_first y a)) (elem_lacks a b (λ x e. h x (elem_later x y a e)))
 
 -- The list without the first place of a number.
 without : ℕ → List ℕ → List ℕ
@@ -124,10 +124,10 @@ without x [] = []
 without x (y ∷ ys) = cond (eqb x y) ys (y ∷ without x ys)
 
 -- one place is gone
-without-length : (x : ℕ) (l : List ℕ) → elem x l ≡ true → suc (length (without x l)) ≡ length l
+without_length : (x : ℕ) (l : List ℕ) → elem x l ≡ true → suc (length (without x l)) ≡ length l
 unfolding without elem
-without-length x [] e = absurd (true≢false (sym e))
-without-length x (y ∷ l) e = go (eqb x y) e (without-length x l)
+without_length x [] e = absurd (true≢false (sym e))
+without_length x (y ∷ l) e = go (eqb x y) e (without_length x l)
   where
     go : (b : Bool) → (b || elem x l) ≡ true → (elem x l ≡ true → suc (length (without x l)) ≡ length l)
         → suc (length (cond b l (y ∷ without x l))) ≡ suc (length l)
@@ -135,10 +135,10 @@ without-length x (y ∷ l) e = go (eqb x y) e (without-length x l)
     go false f rest = ap suc (rest f)
 
 -- no other number is gone
-without-elem : (x y : ℕ) (l : List ℕ) → eqb y x ≡ false → elem y (without x l) ≡ elem y l
+without_elem : (x y : ℕ) (l : List ℕ) → eqb y x ≡ false → elem y (without x l) ≡ elem y l
 unfolding without elem
-without-elem x y [] e = refl
-without-elem x y (z ∷ l) e = go (eqb x z) refl (without-elem x y l e)
+without_elem x y [] e = refl
+without_elem x y (z ∷ l) e = go (eqb x z) refl (without_elem x y l e)
   where
     go : (b : Bool) → eqb x z ≡ b → elem y (without x l) ≡ elem y l → elem y (cond b l (z ∷ without x l)) ≡ (eqb y z || elem y l)
     go true q rest = rw (← eqb-true x z q, e)
@@ -149,13 +149,13 @@ apart : (l : List ℕ) (x y : ℕ) → elem x l ≡ false → elem y l ≡ true 
 apart l x y e f = ne_eqb y x (λ (q : y ≡ x). true≢false (sym (rw q at f) ∙ e))
 
 -- The pigeonhole: distinct numbers that are all in a list are no more than its places.
-pub distinct-within : (a b : List ℕ) → repeats a ≡ false → ((x : ℕ) → elem x a ≡ true → elem x b ≡ true) → length a ≤ length b
-distinct-within [] b e h = omega arith
-distinct-within (x ∷ a) b e h =
-    let p = repeats-none x a e in
-    let inside : (y : ℕ) → elem y a ≡ true → elem y (without x b) ≡ true = λ y f. without-elem x y b (apart a x y p.0 f) ∙ h y (elem-later y x a f) in
-    let shorter = distinct-within a (without x b) p.1 inside in
-    let gone = without-length x b (h x (elem-first x a)) in
+pub distinct_within : (a b : List ℕ) → repeats a ≡ false → ((x : ℕ) → elem x a ≡ true → elem x b ≡ true) → length a ≤ length b
+distinct_within [] b e h = omega arith
+distinct_within (x ∷ a) b e h =
+    let p = repeats_none x a e in
+    let inside : (y : ℕ) → elem y a ≡ true → elem y (without x b) ≡ true = λ y f. without_elem x y b (apart a x y p.0 f) ∙ h y (elem_later y x a f) in
+    let shorter = distinct_within a (without x b) p.1 inside in
+    let gone = without_length x b (h x (elem_first x a)) in
     omega arith
 
 -- Ranges.
@@ -252,16 +252,16 @@ pub in_range_within : (m : ℕ) (l : List ℕ) → InRange m l → (x : ℕ) →
 in_range_within m l h x e = let b = h x e in range_elem x 1 m b.0 (omega arith)
 
 -- distinct numbers of 1 to m are at most m
-pub distinct-short : (m : ℕ) (l : List ℕ) → repeats l ≡ false → InRange m l → length l ≤ m
-distinct-short m l e h = rw (length_range 1 m) at (distinct-within l (numbers_from 1 m) e (in_range_within m l h))
+pub distinct_short : (m : ℕ) (l : List ℕ) → repeats l ≡ false → InRange m l → length l ≤ m
+distinct_short m l e h = rw (length_range 1 m) at (distinct_within l (numbers_from 1 m) e (in_range_within m l h))
 
 -- a list with all numbers of 1 to m has at least m places
 pub covers_long : (m : ℕ) (l : List ℕ) → lacks (numbers_from 1 m) l ≡ false → m ≤ length l
-covers_long m l e = rw (length_range 1 m) at (distinct-within (numbers_from 1 m) l (repeats_range 1 m) (lacks-elem (numbers_from 1 m) l e))
+covers_long m l e = rw (length_range 1 m) at (distinct_within (numbers_from 1 m) l (repeats_range 1 m) (lacks_elem (numbers_from 1 m) l e))
 
 -- so a list of fewer places lacks one
-pub short-lacks : (m : ℕ) (l : List ℕ) → length l < m → lacks (numbers_from 1 m) l ≡ true
-short-lacks m l h = go (lacks (numbers_from 1 m) l) refl
+pub short_lacks : (m : ℕ) (l : List ℕ) → length l < m → lacks (numbers_from 1 m) l ≡ true
+short_lacks m l h = go (lacks (numbers_from 1 m) l) refl
   where
     go : (b : Bool) → lacks (numbers_from 1 m) l ≡ b → b ≡ true
     go true q = refl
@@ -269,84 +269,84 @@ short-lacks m l h = go (lacks (numbers_from 1 m) l) refl
 
 -- m distinct numbers of 1 to m are all of them
 pub distinct_full : (m : ℕ) (l : List ℕ) → repeats l ≡ false → InRange m l → length l ≡ m → lacks (numbers_from 1 m) l ≡ false
-distinct_full m l e h n = elem-lacks (numbers_from 1 m) l (λ x f. go x (elem_range x 1 m f) (elem x l) refl)
+distinct_full m l e h n = elem_lacks (numbers_from 1 m) l (λ x f. go x (elem_range x 1 m f) (elem x l) refl)
   where
     go : (x : ℕ) → (1 ≤ x) × (x < 1 + m) → (b : Bool) → elem x l ≡ b → b ≡ true
     go x k true q = refl
     go x k false q =
-        let long : suc (length l) ≤ m = distinct-short m (x ∷ l) (repeats_cons x l q e) (in_range_cons m x l k.0 (omega arith) h) in
+        let long : suc (length l) ≤ m = distinct_short m (x ∷ l) (repeats_cons x l q e) (in_range_cons m x l k.0 (omega arith) h) in
         absurd (omega arith)
 
 -- distinct numbers of 1 to m, all of them: m places
 pub full_length : (m : ℕ) (l : List ℕ) → repeats l ≡ false → InRange m l → lacks (numbers_from 1 m) l ≡ false → length l ≡ m
 full_length m l e h f =
-    let short = distinct-short m l e h in
+    let short = distinct_short m l e h in
     let long = covers_long m l f in
     omega arith
 
 -- Numbers under a limit.
 
 -- each number of the list is under the limit
-pub reaches-elem : (limit : ℕ) (l : List ℕ) → reaches limit l ≡ false → (x : ℕ) → elem x l ≡ true → x < limit
+pub reaches_elem : (limit : ℕ) (l : List ℕ) → reaches limit l ≡ false → (x : ℕ) → elem x l ≡ true → x < limit
 unfolding reaches elem
-reaches-elem limit [] e x f = absurd (true≢false (sym f))
-reaches-elem limit (y ∷ l) e x f =
+reaches_elem limit [] e x f = absurd (true≢false (sym f))
+reaches_elem limit (y ∷ l) e x f =
     let p = or_none (leb limit y) (reaches limit l) e in
     let low = leb-false limit y p.0 in
-    elem_cases x y l f (λ (q : x ≡ y). omega arith) (reaches-elem limit l p.1 x)
+    elem_cases x y l f (λ (q : x ≡ y). omega arith) (reaches_elem limit l p.1 x)
 
 -- and so is the number at each place
-pub reaches-at : (limit : ℕ) (l : List ℕ) (i : ℕ) → reaches limit l ≡ false → i < length l → get_or l i 0 < limit
+pub reaches_at : (limit : ℕ) (l : List ℕ) (i : ℕ) → reaches limit l ≡ false → i < length l → get_or l i 0 < limit
 unfolding reaches
-reaches-at limit [] i e h = absurd (omega arith)
-reaches-at limit (x ∷ l) zero e h = leb-false limit x (or_none (leb limit x) (reaches limit l) e).0
-reaches-at limit (x ∷ l) (suc i) e h = reaches-at limit l i (or_none (leb limit x) (reaches limit l) e).1 (omega arith)
+reaches_at limit [] i e h = absurd (omega arith)
+reaches_at limit (x ∷ l) zero e h = leb-false limit x (or_none (leb limit x) (reaches limit l) e).0
+reaches_at limit (x ∷ l) (suc i) e h = reaches_at limit l i (or_none (leb limit x) (reaches limit l) e).1 (omega arith)
 
 -- a list of numbers under the limit
-pub elem-reaches : (limit : ℕ) (l : List ℕ) → ((x : ℕ) → elem x l ≡ true → x < limit) → reaches limit l ≡ false
+pub elem_reaches : (limit : ℕ) (l : List ℕ) → ((x : ℕ) → elem x l ≡ true → x < limit) → reaches limit l ≡ false
 unfolding reaches
-elem-reaches limit [] h = refl
-elem-reaches limit (y ∷ l) h =
-    none_or (leb limit y) (reaches limit l) (lt-leb limit y (h y (elem-first y l))) (elem-reaches limit l (λ x e. h x (elem-later x y l e)))
+elem_reaches limit [] h = refl
+elem_reaches limit (y ∷ l) h =
+    none_or (leb limit y) (reaches limit l) (lt-leb limit y (h y (elem_first y l))) (elem_reaches limit l (λ x e. h x (elem_later x y l e)))
 
 -- a list under a limit is under each greater one
 pub reaches_weaken : (small large : ℕ) (l : List ℕ) → small ≤ large → reaches small l ≡ false → reaches large l ≡ false
-reaches_weaken small large l h e = elem-reaches large l (λ x f. let k = reaches-elem small l e x f in omega arith)
+reaches_weaken small large l h e = elem_reaches large l (λ x f. let k = reaches_elem small l e x f in omega arith)
 
 -- what a function makes of each number is under the limit
-pub map-reaches : (limit : ℕ) (f : ℕ → ℕ) (l : List ℕ) → reaches limit (map f l) ≡ false → (x : ℕ) → elem x l ≡ true → f x < limit
+pub map_reaches : (limit : ℕ) (f : ℕ → ℕ) (l : List ℕ) → reaches limit (map f l) ≡ false → (x : ℕ) → elem x l ≡ true → f x < limit
 unfolding reaches elem
-map-reaches limit f [] e x h = absurd (true≢false (sym h))
-map-reaches limit f (y ∷ l) e x h =
+map_reaches limit f [] e x h = absurd (true≢false (sym h))
+map_reaches limit f (y ∷ l) e x h =
     let p = or_none (leb limit (f y)) (reaches limit (map f l)) e in
-    elem_cases x y l h (λ (q : x ≡ y). rw q (leb-false limit (f y) p.0)) (map-reaches limit f l p.1 x)
+    elem_cases x y l h (λ (q : x ≡ y). rw q (leb-false limit (f y) p.0)) (map_reaches limit f l p.1 x)
 
 -- and the other way
-pub reaches-map : (limit : ℕ) (f : ℕ → ℕ) (l : List ℕ) → ((x : ℕ) → elem x l ≡ true → f x < limit) → reaches limit (map f l) ≡ false
+pub reaches_map : (limit : ℕ) (f : ℕ → ℕ) (l : List ℕ) → ((x : ℕ) → elem x l ≡ true → f x < limit) → reaches limit (map f l) ≡ false
 unfolding reaches
-reaches-map limit f [] h = refl
-reaches-map limit f (y ∷ l) h =
-    none_or (leb limit (f y)) (reaches limit (map f l)) (lt-leb limit (f y) (h y (elem-first y l))) (reaches-map limit f l (λ x e. h x (elem-later x y l e)))
+reaches_map limit f [] h = refl
+reaches_map limit f (y ∷ l) h =
+    none_or (leb limit (f y)) (reaches limit (map f l)) (lt-leb limit (f y) (h y (elem_first y l))) (reaches_map limit f l (λ x e. h x (elem_later x y l e)))
 
 -- two tests against one limit that hold of the same numbers
-leb-same : (limit x y : ℕ) → (limit ≤ x → limit ≤ y) → (limit ≤ y → limit ≤ x) → leb limit x ≡ leb limit y
-leb-same limit x y there back = go (leb limit x) refl
+leb_same : (limit x y : ℕ) → (limit ≤ x → limit ≤ y) → (limit ≤ y → limit ≤ x) → leb limit x ≡ leb limit y
+leb_same limit x y there back = go (leb limit x) refl
   where
     go : (b : Bool) → leb limit x ≡ b → b ≡ leb limit y
     go true e = sym (le-leb limit y (there (leb-true limit x e)))
     go false e = sym (not_so (leb limit y) (λ f. let h = leb-false limit x e in let k = back (leb-true limit y f) in omega arith))
 
 -- some number is the limit or more where the largest is
-pub reaches-largest : (limit : ℕ) (l : List ℕ) → 1 ≤ limit → reaches limit l ≡ leb limit (largest l)
+pub reaches_largest : (limit : ℕ) (l : List ℕ) → 1 ≤ limit → reaches limit l ≡ leb limit (largest l)
 unfolding reaches largest
-reaches-largest limit [] h = sym (lt-leb limit 0 h)
-reaches-largest limit (x ∷ l) h = go (leb limit x) refl (reaches-largest limit l h)
+reaches_largest limit [] h = sym (lt-leb limit 0 h)
+reaches_largest limit (x ∷ l) h = go (leb limit x) refl (reaches_largest limit l h)
   where
     go : (b : Bool) → leb limit x ≡ b → reaches limit l ≡ leb limit (largest l) → reaches limit (x ∷ l) ≡ leb limit (max x (largest l))
     go true e rest = rw e (sym (le-leb limit (max x (largest l)) (let k = leb-true limit x e in omega arith)))
     go false e rest =
         let low = leb-false limit x e in
-        rw e (rest ∙ leb-same limit (largest l) (max x (largest l)) (λ k. omega arith) (λ k. omega arith))
+        rw e (rest ∙ leb_same limit (largest l) (max x (largest l)) (λ k. omega arith) (λ k. omega arith))
 
 -- the largest number of lists laid end to end
 pub largest_append : (a b : List ℕ) → largest (a ++ b) ≡ max (largest a) (largest b)
@@ -363,10 +363,10 @@ falls_none x y l e = let p = or_none (ltb y x) (falls_from y l) e in (ltb-false 
 
 -- Running sums and rows.
 
-pub length-sums : (a : ℕ) (l : List ℕ) → length (sums_from a l) ≡ suc (length l)
+pub length_sums : (a : ℕ) (l : List ℕ) → length (sums_from a l) ≡ suc (length l)
 unfolding sums_from
-length-sums a [] = refl
-length-sums a (x ∷ l) = ap suc (length-sums (a + x) l)
+length_sums a [] = refl
+length_sums a (x ∷ l) = ap suc (length_sums (a + x) l)
 
 -- running sums do not fall
 pub falls_sums : (x a : ℕ) (l : List ℕ) → x ≤ a → falls_from x (sums_from a l) ≡ false
@@ -375,16 +375,16 @@ falls_sums x a [] h = none_or (ltb a x) false (le-ltb a x h) refl
 falls_sums x a (y ∷ l) h = none_or (ltb a x) (falls_from a (sums_from (a + y) l)) (le-ltb a x h) (falls_sums a (a + y) l (omega arith))
 
 -- they start where they start
-pub first-sums : (a d : ℕ) (l : List ℕ) → get_or (sums_from a l) 0 d ≡ a
+pub first_sums : (a d : ℕ) (l : List ℕ) → get_or (sums_from a l) 0 d ≡ a
 unfolding sums_from
-first-sums a d [] = refl
-first-sums a d (x ∷ l) = refl
+first_sums a d [] = refl
+first_sums a d (x ∷ l) = refl
 
 -- the running sums of the lengths of rows end at the length of all the rows laid end to end
-pub last-sums : (a d : ℕ) (rows : List (List ℕ)) → get_or (sums_from a (map length rows)) (length rows) d ≡ a + length (flatten rows)
+pub last_sums : (a d : ℕ) (rows : List (List ℕ)) → get_or (sums_from a (map length rows)) (length rows) d ≡ a + length (flatten rows)
 unfolding sums_from flatten
-last-sums a d [] = omega arith
-last-sums a d (row ∷ rows) = last-sums (a + length row) d rows ∙ simp length-append (omega arith)
+last_sums a d [] = omega arith
+last_sums a d (row ∷ rows) = last_sums (a + length row) d rows ∙ simp length-append (omega arith)
 
 -- the first element of row u, by its place among all rows laid end to end
 pub record RowStart (rows : List (List ℕ)) (a u x : ℕ) : Type 0 where
@@ -394,12 +394,12 @@ pub record RowStart (rows : List (List ℕ)) (a u x : ℕ) : Type 0 where
   pub is : get_or (flatten rows) place 0 ≡ x
 
 -- a row with a first element
-pub row-start : (rows : List (List ℕ)) (a u x : ℕ) (rest : List ℕ) → get_or rows u [] ≡ x ∷ rest → RowStart rows a u x
+pub row_start : (rows : List (List ℕ)) (a u x : ℕ) (rest : List ℕ) → get_or rows u [] ≡ x ∷ rest → RowStart rows a u x
 unfolding sums_from flatten
-row-start [] a u x rest e = absurd (nil≢cons e)
-row-start (row ∷ rows) a zero x rest e = rw e (record { place = 0; offset = omega arith; below = omega arith; is = refl })
-row-start (row ∷ rows) a (suc u) x rest e =
-    let s = row-start rows (a + length row) u x rest e in
+row_start [] a u x rest e = absurd (nil≢cons e)
+row_start (row ∷ rows) a zero x rest e = rw e (record { place = 0; offset = omega arith; below = omega arith; is = refl })
+row_start (row ∷ rows) a (suc u) x rest e =
+    let s = row_start rows (a + length row) u x rest e in
     record {
       place = length row + s.place;
       offset = omega (arith, s.offset);
@@ -408,22 +408,22 @@ row-start (row ∷ rows) a (suc u) x rest e =
     }
 
 -- an empty row starts where the next one does
-pub row-none : (rows : List (List ℕ)) (a u : ℕ) → u < length rows → get_or rows u [] ≡ []
+pub row_none : (rows : List (List ℕ)) (a u : ℕ) → u < length rows → get_or rows u [] ≡ []
     → get_or (sums_from a (map length rows)) u 0 ≡ get_or (sums_from a (map length rows)) (suc u) 0
 unfolding sums_from
-row-none [] a u h e = absurd (omega arith)
-row-none (row ∷ rows) a zero h e = rw e (omega (arith, first-sums (a + 0) 0 (map length rows)))
-row-none (row ∷ rows) a (suc u) h e = row-none rows (a + length row) u (omega arith) e
+row_none [] a u h e = absurd (omega arith)
+row_none (row ∷ rows) a zero h e = rw e (omega (arith, first_sums (a + 0) 0 (map length rows)))
+row_none (row ∷ rows) a (suc u) h e = row_none rows (a + length row) u (omega arith) e
 
 -- a function at each number of each row
-pub map-flatten : (f : ℕ → ℕ) (rows : List (List ℕ)) → flatten (map (λ (row : List ℕ). map f row) rows) ≡ map f (flatten rows)
+pub map_flatten : (f : ℕ → ℕ) (rows : List (List ℕ)) → flatten (map (λ (row : List ℕ). map f row) rows) ≡ map f (flatten rows)
 unfolding flatten
-map-flatten f [] = refl
-map-flatten f (row ∷ rows) = rw (map-flatten f rows, map-append f row (flatten rows))
+map_flatten f [] = refl
+map_flatten f (row ∷ rows) = rw (map_flatten f rows, map-append f row (flatten rows))
 
 -- a row is no longer than all the rows laid end to end
-pub row-short : (rows : List (List ℕ)) (u : ℕ) → length (get_or rows u []) ≤ length (flatten rows)
+pub row_short : (rows : List (List ℕ)) (u : ℕ) → length (get_or rows u []) ≤ length (flatten rows)
 unfolding flatten
-row-short [] u = omega arith
-row-short (row ∷ rows) zero = let n = length-append row (flatten rows) in omega arith
-row-short (row ∷ rows) (suc u) = let n = length-append row (flatten rows) in omega (arith, row-short rows u)
+row_short [] u = omega arith
+row_short (row ∷ rows) zero = let n = length-append row (flatten rows) in omega arith
+row_short (row ∷ rows) (suc u) = let n = length-append row (flatten rows) in omega (arith, row_short rows u)

@@ -1,7 +1,8 @@
 -- Lists: one laid over another, consecutive numbers, running sums, the largest number, sums of a weight,
 -- values counted as 0 or 1, chains, pieces of a list, and tests that compute. Nothing here is about vertices,
 -- edges, bytes or nodes: several crates' definitions are made of these.
-use Rattle.std.specs.Prelude.{ℕ, zero, suc, ◌+◌, max, Bool, false, not, ◌||◌, List, [], ◌∷◌, ◌++◌, leb, ltb, eqb, length, take, drop}
+use Rattle.std.specs.Prelude.{ℕ, zero, suc, ◌+◌, max, Bool, false, not, ◌||◌, leb, ltb, eqb}
+use Rattle.std.specs.Prelude.{List, [], ◌∷◌, ◌++◌, length, take, drop}
 use Rattle.std.proofs.Math.Option.{Option, none, some}
 
 -- `new`, and then the rest of `old`: "Places past the need keep their contents." (§1.5)

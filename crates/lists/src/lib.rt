@@ -1,5 +1,7 @@
 // List definitions (specs/) and facts about them (proofs/) that several crates share and the
 // toolchain's libraries lack; and the few functions that several crates' code shares.
+#![tactic(auto)]
+
 ghost use Rattle.std.specs.Prelude.{◌≡◌, ◌<◌, ◌≤◌, length, get_or, set, replicate};
 ghost use Rattle.lists.specs.Lists.{overlay};
 

@@ -10,16 +10,16 @@ use lib.ListN.{length, replicate}
 use borrow.Author.Tests.{leb-false, ne_eqb}
 use Rattle.numbers.specs.Numbers.{max_vertices, success, repeated, unreached, bad_source, short_list, unfinished}
 use Rattle.numbers.specs.Refusals.{Refusal, ◌gives◌, first}
-use Rattle.numbers.proofs.First.{Positive, first-passed, first_split, first_append, first_append_stop, Under, first_under}
+use Rattle.numbers.proofs.First.{Positive, first_passed, first_split, first_append, first_append_stop, Under, first_under}
 use Rattle.lists.specs.Lists.{overlay, elem}
 use Rattle.lists.proofs.Or.{or_none}
 use Rattle.graph.specs.Graph.{offsets_of, targets_of}
 use Rattle.graph.specs.File.{vertex_count, edge_count, graph_of}
 use Rattle.graph.specs.Read.{header_refusals, scan_refusals, chain_refusals, clears_marks}
-use Rattle.graph.proofs.FileLists.{length-graph}
-use Rattle.graph.proofs.WellFormed.{header-sized, scan-bounded, chains_partitioned, graph-below, graph-edges, positive-header, positive-scan}
+use Rattle.graph.proofs.FileLists.{length_graph}
+use Rattle.graph.proofs.WellFormed.{header_sized, scan_bounded, chains_partitioned, graph_below, graph_edges, positive_header, positive_scan}
 use Rattle.schedule.specs.Check.{schedule_refusals}
-use Rattle.schedule.proofs.Schedules.{positive-schedule, schedule-passed}
+use Rattle.schedule.proofs.Schedules.{positive_schedule, schedule_passed}
 use Rattle.model.specs.Play.{play, rounds, event_bound}
 use Rattle.model.specs.Call.{Lent, lengths_of, lengths_short, early_refusals, run_of, input_refusals, search_refusals, search_number, plays, answer_by, sweeps_marks, lent_after}
 use Rattle.model.specs.Words.{word_of}
@@ -54,14 +54,14 @@ module _ (file : List ℕ) (source P : ℕ) (schedule : List ℕ) (lent : Lent) 
   -- Numbers.
 
   -- all numbers of the input's tests are positive, and below 21
-  input-numbers : Positive input × Under unfinished input
+  input_numbers : Positive input × Under unfinished input
   unfolding input_refusals early_refusals header_refusals scan_refusals schedule_refusals chain_refusals
-  input-numbers = omega arith
+  input_numbers = omega arith
 
   -- so are those of the tests before the chains
-  pub early-positive : Positive (early_refusals file source P schedule (lengths_of lent))
+  pub early_positive : Positive (early_refusals file source P schedule (lengths_of lent))
   unfolding early_refusals header_refusals scan_refusals schedule_refusals
-  early-positive = omega arith
+  early_positive = omega arith
 
   -- a call that answers 0 or 21 has an input that passes
   pub call_passed : plays number ≡ true → first input ≡ 0
@@ -72,7 +72,7 @@ module _ (file : List ℕ) (source P : ℕ) (schedule : List ℕ) (lent : Lent) 
       go zero f = f
       go (suc k) f =
           let stopped = first_append_stop input last (omega arith) in
-          let low = first_under unfinished (omega arith) input input-numbers.1 in
+          let low = first_under unfinished (omega arith) input input_numbers.1 in
           absurd (true≢false (sym e ∙ ap plays stopped ∙ between (first input) (omega arith) low))
 
   -- An input that passes every test.
@@ -81,7 +81,7 @@ module _ (file : List ℕ) (source P : ℕ) (schedule : List ℕ) (lent : Lent) 
     pub record Parts : Type 0 where
       pub header : first (header_refusals file) ≡ 0
       pub scan : first (scan_refusals file) ≡ 0
-      pub source-test : leb (vertex_count file) source ≡ false
+      pub source_test : leb (vertex_count file) source ≡ false
       pub schedule_tests : first (schedule_refusals schedule P) ≡ 0
       pub needs : lengths_short (vertex_count file) (edge_count file) P (lengths_of lent) ≡ false
       pub whole : first (chain_refusals file) ≡ 0
@@ -94,29 +94,29 @@ module _ (file : List ℕ) (source P : ℕ) (schedule : List ℕ) (lent : Lent) 
         let needed = lengths_short n (edge_count file) P (lengths_of lent) in
         let rest = needed gives short_list ∷ [] in
         let far = leb n source in
-        let both = first_split early (chain_refusals file) early-positive e in
-        let p = first_split (header_refusals file) (scan_refusals file ++ far gives bad_source ∷ schedule_refusals schedule P ++ rest) (positive-header file) both.0 in
-        let q = first_split (scan_refusals file) (far gives bad_source ∷ schedule_refusals schedule P ++ rest) (positive-scan file) p.1 in
-        let r = first-passed far bad_source (schedule_refusals schedule P ++ rest) (omega arith) q.1 in
-        let t = first_split (schedule_refusals schedule P) rest (positive-schedule schedule P) r.1 in
-        let w = first-passed needed short_list [] (omega arith) t.1 in
-        record { header = p.0; scan = q.0; source-test = r.0; schedule_tests = t.0; needs = w.0; whole = both.1 }
+        let both = first_split early (chain_refusals file) early_positive e in
+        let p = first_split (header_refusals file) (scan_refusals file ++ far gives bad_source ∷ schedule_refusals schedule P ++ rest) (positive_header file) both.0 in
+        let q = first_split (scan_refusals file) (far gives bad_source ∷ schedule_refusals schedule P ++ rest) (positive_scan file) p.1 in
+        let r = first_passed far bad_source (schedule_refusals schedule P ++ rest) (omega arith) q.1 in
+        let t = first_split (schedule_refusals schedule P) rest (positive_schedule schedule P) r.1 in
+        let w = first_passed needed short_list [] (omega arith) t.1 in
+        record { header = p.0; scan = q.0; source_test = r.0; schedule_tests = t.0; needs = w.0; whole = both.1 }
 
     -- n and m of the graph are the file's, and n is within its size
     pub call_sizes : (length (graph_of file) ≡ vertex_count file) × (length (targets_of (graph_of file)) ≡ edge_count file) × (length (graph_of file) ≤ max_vertices)
     call_sizes =
-        let n = length-graph file in
-        (n, graph-edges file (scan-bounded file call_parts.scan) (chains_partitioned file call_parts.whole), rw n (header-sized file call_parts.header).few_vertices)
+        let n = length_graph file in
+        (n, graph_edges file (scan_bounded file call_parts.scan) (chains_partitioned file call_parts.whole), rw n (header_sized file call_parts.header).few_vertices)
 
     -- what demand 3 asks for
     pub call_accepted : Accepted (graph_of file) source P schedule
     call_accepted =
-        let passed = schedule-passed schedule P call_parts.schedule_tests in
+        let passed = schedule_passed schedule P call_parts.schedule_tests in
         record {
-          targets-below = rw (length-graph file) (graph-below file (scan-bounded file call_parts.scan));
-          source-below = rw (length-graph file) (leb-false (vertex_count file) source call_parts.source-test);
-          some-worker = passed.some-worker;
-          few-workers = passed.few-workers;
+          targets_below = rw (length_graph file) (graph_below file (scan_bounded file call_parts.scan));
+          source_below = rw (length_graph file) (leb-false (vertex_count file) source call_parts.source_test);
+          some_worker = passed.some_worker;
+          few_workers = passed.few_workers;
           formed = passed.formed;
         }
 
@@ -127,7 +127,7 @@ module _ (file : List ℕ) (source P : ℕ) (schedule : List ℕ) (lent : Lent) 
     -- the number is 0 if the search is finished, else 21
     pub call_number : number ≡ cond (run_of file source P schedule).state.finished success unfinished
     unfolding search_number search_refusals first
-    call_number = first_append input last input-numbers.0 e ∙ decided (run_of file source P schedule).state.finished
+    call_number = first_append input last input_numbers.0 e ∙ decided (run_of file source P schedule).state.finished
       where
         decided : (b : Bool) → cond (not b) unfinished success ≡ cond b success unfinished
         decided true = refl
@@ -136,7 +136,7 @@ module _ (file : List ℕ) (source P : ℕ) (schedule : List ℕ) (lent : Lent) 
     -- as many full rounds as the bound: the number is 0
     pub call_rounds : event_bound (graph_of file) P ≤ rounds P schedule → number ≡ success
     unfolding run_of
-    call_rounds h = call_number ∙ ap (λ (b : Bool). cond b success unfinished) (call_demand.enough-rounds h)
+    call_rounds h = call_number ∙ ap (λ (b : Bool). cond b success unfinished) (call_demand.enough_rounds h)
 
   -- Answers and lists at exit.
 

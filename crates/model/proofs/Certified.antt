@@ -9,10 +9,10 @@ use Rattle.model.specs.Paths.{edge_target, Labels, distance_of, parent_of, is_se
 
 -- of `RightResult`, link by link
 pub record Certified (g : Graph) (s : ℕ) (x : Labels) : Type 0 where
-  pub distances-all : length x.distances ≡ length g
-  pub parents-all : length x.parents ≡ length g
+  pub distances_all : length x.distances ≡ length g
+  pub parents_all : length x.parents ≡ length g
   pub source : distance_of x s ≡ some 0
-  pub own-parent : parent_of x s ≡ some s
+  pub own_parent : parent_of x s ≡ some s
   pub onward : (u d i : ℕ) → u < length g → distance_of x u ≡ some d → i < length (edges g u)
       → (k : ℕ) × (distance_of x (edge_target g u i) ≡ some k) × (k ≤ suc d)
   pub no_parent_lem : (v : ℕ) → v < length g → distance_of x v ≡ none → parent_of x v ≡ none

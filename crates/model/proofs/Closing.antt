@@ -14,7 +14,7 @@ use Rattle.lists.specs.Lists.{some_one}
 use Rattle.graph.specs.Graph.{Graph, edges}
 use Rattle.pennant.specs.Bag.{taken_number, is_empty}
 use Rattle.pennant.specs.Held.{only, copies}
-use Rattle.pennant.proofs.Laws.{empty_bag_lem, empty_weighs, taken-held, shaped_empty}
+use Rattle.pennant.proofs.Laws.{empty_bag_lem, empty_weighs, taken_held, shaped_empty}
 use Rattle.model.specs.Paths.{edge_target, Walk, stay, Distance, Labels, distance_of, parent_of, is_set}
 use Rattle.model.proofs.Certified.{Certified}
 use Rattle.model.specs.State.{free, Worker, idle_worker, State, worker_at}
@@ -22,25 +22,25 @@ use Rattle.model.specs.Table.{all_idle, united_outputs, handed_in, raised_state,
 use Rattle.model.specs.Demand.{LayerOpen}
 use Rattle.model.proofs.Counts.{hand_of, naming_of, at_of, outputs}
 use Rattle.model.proofs.Sound.{LabelsSound, CrewSound, Sound}
-use Rattle.model.proofs.Walks.{walk_more, walk-last, distance_source}
-use Rattle.model.proofs.LabelFacts.{not-both, set_value, one_set, label_is}
-use Rattle.model.proofs.Workers.{weigh_unions, shaped_unions, Idle, idle-each}
-use Rattle.model.proofs.Fresh.{no_copies, none_busy, LayerBag, SpareCrew, fresh-sound, fresh-opens}
+use Rattle.model.proofs.Walks.{walk_more, walk_last, distance_source}
+use Rattle.model.proofs.LabelFacts.{not_both, set_value, one_set, label_is}
+use Rattle.model.proofs.Workers.{weigh_unions, shaped_unions, Idle, idle_each}
+use Rattle.model.proofs.Fresh.{no_copies, none_busy, LayerBag, SpareCrew, fresh_sound, fresh_opens}
 
 -- The end of a layer: sound labels, and a sound crew that is idle.
 module _ {g : Graph} {source P d : ℕ} {x : Labels} {workers : List Worker}
     (l : LabelsSound g source d x) (c : CrewSound g source P d x workers) (idle : (w : ℕ) → Idle (worker_at workers w)) where
   -- all are free
   all-free : (w : ℕ) → (worker_at workers w).phase ≡ free
-  all-free w = (idle w).phase-free
+  all-free w = (idle w).phase_free
 
   -- a path through a vertex that is set
   through : (u k i : ℕ) → distance_of x u ≡ some k → i < length (edges g u) → Walk g source (edge_target g u i) (suc k)
   through u k i e there = walk_more (l.written u k e).walk i there
 
   -- every edge of a vertex up to this layer leads to a vertex that is set
-  target-set : (u k i : ℕ) → distance_of x u ≡ some k → k ≤ d → i < length (edges g u) → is_set (distance_of x (edge_target g u i)) ≡ true
-  target-set u k i e h there = go (ltb k d) refl
+  target_set : (u k i : ℕ) → distance_of x u ≡ some k → k ≤ d → i < length (edges g u) → is_set (distance_of x (edge_target g u i)) ≡ true
+  target_set u k i e h there = go (ltb k d) refl
     where
       go : (b : Bool) → ltb k d ≡ b → is_set (distance_of x (edge_target g u i)) ≡ true
       go true q = l.near (edge_target g u i) (suc k) (through u k i e there) (ltb-true k d q)
@@ -51,76 +51,76 @@ module _ {g : Graph} {source P d : ℕ} {x : Labels} {workers : List Worker}
           one_set (distance_of x (edge_target g u i)) (omega (arith, none_busy workers all-free (at_of u i) refl))
 
   -- what d + 1 links reach is set
-  next-set : (v k : ℕ) → Walk g source v k → k ≤ suc d → is_set (distance_of x v) ≡ true
-  next-set v k w h = go (leb k d) refl
+  next_set : (v k : ℕ) → Walk g source v k → k ≤ suc d → is_set (distance_of x v) ≡ true
+  next_set v k w h = go (leb k d) refl
     where
       go : (b : Bool) → leb k d ≡ b → is_set (distance_of x v) ≡ true
       go true q = l.near v k w (leb-true k d q)
       go false q =
-          let last = walk-last w d (omega (arith, leb-false k d q)) in
+          let last = walk_last w d (omega (arith, leb-false k d q)) in
           let label = set_value (distance_of x last.before) (l.near last.before d last.walk (omega arith)) in
           let low = (l.written last.before label.value label.is).least d last.walk in
-          rw last.edge.leads at (target-set last.before label.value last.edge.place label.is low last.edge.there)
+          rw last.edge.leads at (target_set last.before label.value last.edge.place label.is low last.edge.there)
 
   -- every vertex of the next layer has its label
-  next-labelled : (v : ℕ) → Distance g source v (suc d) → distance_of x v ≡ some (suc d)
-  next-labelled v far = label_is l v (suc d) (next-set v (suc d) far.walk (omega arith)) far
+  next_labelled : (v : ℕ) → Distance g source v (suc d) → distance_of x v ≡ some (suc d)
+  next_labelled v far = label_is l v (suc d) (next_set v (suc d) far.walk (omega arith)) far
 
   -- every vertex that is set has its parent
-  parent-set : (v : ℕ) → is_set (distance_of x v) ≡ true → 1 ≤ some_one (parent_of x v)
-  parent-set v e = omega (arith, c.parented v e, none_busy workers all-free (naming_of v) refl)
+  parent_set : (v : ℕ) → is_set (distance_of x v) ≡ true → 1 ≤ some_one (parent_of x v)
+  parent_set v e = omega (arith, c.parented v e, none_busy workers all-free (naming_of v) refl)
 
   -- the united bag holds what the output bags hold
-  united-copies : (v : ℕ) → copies v (united_outputs workers) ≡ outputs v workers
+  united_copies : (v : ℕ) → copies v (united_outputs workers) ≡ outputs v workers
   unfolding united_outputs
-  united-copies v =
+  united_copies v =
       let before = (worker_at workers 0).input in
       omega (arith, weigh_unions (λ (w : Worker). w.output) (only v) before workers, empty_weighs (only v) before (idle 0).input_empty)
 
   -- which is the vertices that are set for the next layer
-  united-next : (v : ℕ) → 1 ≤ copies v (united_outputs workers) → distance_of x v ≡ some (suc d)
-  united-next v h = c.output-next v (omega (arith, united-copies v))
+  united_next : (v : ℕ) → 1 ≤ copies v (united_outputs workers) → distance_of x v ≡ some (suc d)
+  united_next v h = c.output_next v (omega (arith, united_copies v))
 
   -- all of them
-  next-united : (v : ℕ) → distance_of x v ≡ some (suc d) → 1 ≤ copies v (united_outputs workers)
-  next-united v e = omega (arith, united-copies v, c.stowed v e, none_busy workers all-free (hand_of v) refl)
+  next_united : (v : ℕ) → distance_of x v ≡ some (suc d) → 1 ≤ copies v (united_outputs workers)
+  next_united v e = omega (arith, united_copies v, c.stowed v e, none_busy workers all-free (hand_of v) refl)
 
   -- so it holds the next layer
-  united-bag : LayerBag g source P (suc d) (united_outputs workers)
+  united_bag : LayerBag g source P (suc d) (united_outputs workers)
   unfolding united_outputs
-  united-bag = record {
-    every = λ v far. next-united v (next-labelled v far);
-    no_other = λ v h. l.written v (suc d) (united-next v h);
-    at_most = λ v. omega (arith, united-copies v, c.few-outputs v);
+  united_bag = record {
+    every = λ v far. next_united v (next_labelled v far);
+    no_other = λ v h. l.written v (suc d) (united_next v h);
+    at_most = λ v. omega (arith, united_copies v, c.few_outputs v);
     shaped = shaped_unions (λ (w : Worker). w.output) idle_worker (worker_at workers 0).input workers
-        (c.each 0).input-shaped (λ w. (c.each w).output-shaped);
+        (c.each 0).input_shaped (λ w. (c.each w).output_shaped);
   }
 
   -- workers whose output bags have been united are spare
   handed_in_lem : 1 ≤ P → SpareCrew P (map handed_in workers)
   handed_in_lem p = record {
-    some-worker = p;
+    some_worker = p;
     crew = length-map workers handed_in ∙ c.crew;
     each = λ w. rw (get_or-map handed_in workers w idle_worker) (record {
-      idle = record { input_empty = (idle w).input_empty; phase-free = (idle w).phase-free };
+      idle = record { input_empty = (idle w).input_empty; phase_free = (idle w).phase_free };
       output_empty = empty_bag_lem;
-      input-shaped = (c.each w).input-shaped;
-      output-shaped = shaped_empty;
+      input_shaped = (c.each w).input_shaped;
+      output_shaped = shaped_empty;
     });
   }
 
   -- labels of a layer with a vertex after it are sound for the next one
-  next-labels : (v : ℕ) → distance_of x v ≡ some (suc d) → LabelsSound g source (suc d) x
-  next-labels v e = record {
-    distances-all = l.distances-all;
-    parents-all = l.parents-all;
+  next_labels : (v : ℕ) → distance_of x v ≡ some (suc d) → LabelsSound g source (suc d) x
+  next_labels v e = record {
+    distances_all = l.distances_all;
+    parents_all = l.parents_all;
     written = l.written;
-    not-far = λ u k f. omega (arith, l.not-far u k f);
-    near = next-set;
-    some-vertex = (v, l.written v (suc d) e);
+    not_far = λ u k f. omega (arith, l.not_far u k f);
+    near = next_set;
+    some_vertex = (v, l.written v (suc d) e);
     room = omega (arith, l.more_room v e);
-    more_room = λ u f. absurd (omega (arith, l.not-far u (suc (suc d)) f));
-    own-parent = l.own-parent;
+    more_room = λ u f. absurd (omega (arith, l.not_far u (suc (suc d)) f));
+    own_parent = l.own_parent;
     parent = l.parent;
   }
 
@@ -129,64 +129,64 @@ module _ {g : Graph} {source P d : ℕ} {x : Labels} {workers : List Worker}
   raised = raised_state (record { labels = x; workers = workers; layer = d; finished = false }) (united_outputs workers)
 
   -- is sound, if an output bag holds a vertex
-  next-sound : 1 ≤ P → is_empty (united_outputs workers) ≡ false → Sound g source P raised
-  next-sound p filled = let v = taken_number (united_outputs workers) in record {
-    labels-sound = next-labels v (united-next v (taken-held (united_outputs workers) filled));
-    crew-sound = fresh-sound (handed_in_lem p) united-bag (λ u e. omega (arith, l.not-far u (suc (suc d)) e)) parent-set;
+  next_sound : 1 ≤ P → is_empty (united_outputs workers) ≡ false → Sound g source P raised
+  next_sound p filled = let v = taken_number (united_outputs workers) in record {
+    labels_sound = next_labels v (united_next v (taken_held (united_outputs workers) filled));
+    crew_sound = fresh_sound (handed_in_lem p) united_bag (λ u e. omega (arith, l.not_far u (suc (suc d)) e)) parent_set;
   }
 
   -- and opens the next layer
-  next-opens : 1 ≤ P → LayerOpen g source P raised
-  next-opens p = fresh-opens (handed_in_lem p) united-bag x false
+  next_opens : 1 ≤ P → LayerOpen g source P raised
+  next_opens p = fresh_opens (handed_in_lem p) united_bag x false
 
   -- a vertex that has a parent is set
   named_set : (v p : ℕ) → parent_of x v ≡ some p → is_set (distance_of x v) ≡ true
   named_set v p e = elim (ℕ_discrete v source) [ yes q ↦ rw q (l.near source 0 stay (omega arith)) | no q ↦ rw (l.parent v p q e).there ]
 
   -- if no output bag holds anything, no vertex is set for the next layer
-  last-layer : is_empty (united_outputs workers) ≡ true → (v k : ℕ) → distance_of x v ≡ some k → k ≤ d
-  last-layer empty v k e = elim (dec_le k d) [
+  last_layer : is_empty (united_outputs workers) ≡ true → (v k : ℕ) → distance_of x v ≡ some k → k ≤ d
+  last_layer empty v k e = elim (dec_le k d) [
     | yes h ↦ h
     | no h ↦
-        let same : k ≡ suc d = omega (arith, l.not-far v k e) in
-        absurd (omega (arith, next-united v (rw same at e), empty_weighs (only v) (united_outputs workers) empty))
+        let same : k ≡ suc d = omega (arith, l.not_far v k e) in
+        absurd (omega (arith, next_united v (rw same at e), empty_weighs (only v) (united_outputs workers) empty))
   ]
 
   -- and the labels are certified
   last_certified : is_empty (united_outputs workers) ≡ true → Certified g source x
   last_certified empty = record {
-    distances-all = l.distances-all;
-    parents-all = l.parents-all;
+    distances_all = l.distances_all;
+    parents_all = l.parents_all;
     source = label_is l source 0 (l.near source 0 stay (omega arith)) distance_source;
-    own-parent = l.own-parent;
+    own_parent = l.own_parent;
     onward = λ u k i below e there.
-        let label = set_value (distance_of x (edge_target g u i)) (target-set u k i e (last-layer empty u k e) there) in
+        let label = set_value (distance_of x (edge_target g u i)) (target_set u k i e (last_layer empty u k e) there) in
         (label.value, label.is, (l.written (edge_target g u i) label.value label.is).least (suc k) (through u k i e there));
     no_parent_lem = λ v below e. unnamed v e (parent_of x v) refl;
     parent = λ v below apart e.
-        let name = set_value (parent_of x v) (one_set (parent_of x v) (parent-set v e)) in
+        let name = set_value (parent_of x v) (one_set (parent_of x v) (parent_set v e)) in
         (name.value, name.is, l.parent v name.value apart name.is);
   }
     where
       -- a vertex that is unset has no parent
       unnamed : (v : ℕ) → distance_of x v ≡ none → (p : Option ℕ) → parent_of x v ≡ p → p ≡ none
       unnamed v e none f = refl
-      unnamed v e (some p) f = not-both e (named_set v p f)
+      unnamed v e (some p) f = not_both e (named_set v p f)
 
 module _ {g : Graph} {source : ℕ} where
   -- a close that raises the layer leaves a sound state
-  pub close-sound : {P : ℕ} {s : State} → 1 ≤ P → Sound g source P s → all_idle s.workers ≡ true → is_empty (united_outputs s.workers) ≡ false
+  pub close_sound : {P : ℕ} {s : State} → 1 ≤ P → Sound g source P s → all_idle s.workers ≡ true → is_empty (united_outputs s.workers) ≡ false
       → Sound g source P (closed s (united_outputs s.workers))
   unfolding closed
-  close-sound {s = s} p h idle filled = rw filled (next-sound h.labels-sound h.crew-sound (idle-each s.workers idle) p filled)
+  close_sound {s = s} p h idle filled = rw filled (next_sound h.labels_sound h.crew_sound (idle_each s.workers idle) p filled)
 
   -- and opens the next layer
-  pub close-opens : {P : ℕ} {s : State} → 1 ≤ P → Sound g source P s → all_idle s.workers ≡ true → is_empty (united_outputs s.workers) ≡ false
+  pub close_opens : {P : ℕ} {s : State} → 1 ≤ P → Sound g source P s → all_idle s.workers ≡ true → is_empty (united_outputs s.workers) ≡ false
       → LayerOpen g source P (closed s (united_outputs s.workers))
   unfolding closed
-  close-opens {s = s} p h idle filled = rw filled (next-opens h.labels-sound h.crew-sound (idle-each s.workers idle) p)
+  close_opens {s = s} p h idle filled = rw filled (next_opens h.labels_sound h.crew_sound (idle_each s.workers idle) p)
 
   -- a close that finishes leaves labels that are certified
   pub close_certified : {P : ℕ} {s : State} → Sound g source P s → all_idle s.workers ≡ true → is_empty (united_outputs s.workers) ≡ true
       → Certified g source s.labels
-  close_certified {s = s} h idle empty = last_certified h.labels-sound h.crew-sound (idle-each s.workers idle) empty
+  close_certified {s = s} h idle empty = last_certified h.labels_sound h.crew_sound (idle_each s.workers idle) empty

@@ -7,14 +7,14 @@ use Prim.Native.Nat.{ℕ, zero, suc, ◌+◌, ◌*◌, ◌-◌, ◌≤◌, ◌<�
 use native.Mathlib.Omega.{arith}
 use lib.ListN.{length, get_or, set, replicate, length-append, length-replicate}
 use borrow.Author.Tests.{not-true}
-use Rattle.lists.proofs.Parts.{get_or-repeated}
+use Rattle.lists.proofs.Parts.{get_or_repeated}
 use Rattle.lists.proofs.Replaced.{set_cases}
-use Rattle.lists.proofs.Tests.{test-within}
-use Rattle.lists.proofs.Sums.{sum-most}
+use Rattle.lists.proofs.Tests.{test_within}
+use Rattle.lists.proofs.Sums.{sum_most}
 use Rattle.graph.specs.Graph.{Graph, edges}
 use Rattle.pennant.specs.Bag.{Bag, empty_bag, is_empty}
 use Rattle.pennant.specs.Held.{items, weigh, one, size}
-use Rattle.pennant.proofs.Laws.{weigh_empty, weigh-items, empty_bag_lem, filled-size}
+use Rattle.pennant.proofs.Laws.{weigh_empty, weigh_items, empty_bag_lem, filled_size}
 use Rattle.model.specs.Paths.{edge_target, Labels, distance_of, is_set}
 use Rattle.model.specs.State.{Phase, free, holding, in_hand, marked, named}
 use Rattle.model.specs.Table.{hold_at, look, mark}
@@ -28,15 +28,15 @@ pub filled-one : (s : Bag) → is_empty s ≡ false → filled_one s ≡ 1
 filled-one s e = rw e
 
 -- no bag counts more than once
-pub filled-most : (s : Bag) → filled_one s ≤ 1
-filled-most s = test-within (not (is_empty s)) 1 (λ e. omega arith)
+pub filled_most : (s : Bag) → filled_one s ≤ 1
+filled_most s = test_within (not (is_empty s)) 1 (λ e. omega arith)
 
 -- nor more than it weighs
 pub filled_weighs : (g : Graph) (s : Bag) → filled_one s ≤ weigh (item_cost g) s
-filled_weighs g s = test-within (not (is_empty s)) (weigh (item_cost g) s) (λ e. omega (arith, filled-size s (not-true (is_empty s) e), sizes))
+filled_weighs g s = test_within (not (is_empty s)) (weigh (item_cost g) s) (λ e. omega (arith, filled_size s (not-true (is_empty s) e), sizes))
   where
     sizes : size s ≤ weigh (item_cost g) s
-    sizes = rw (weigh-items one s, weigh-items (item_cost g) s) (omega (arith, sum-most one (item_cost g) 0 (λ v. omega arith) (items s)))
+    sizes = rw (weigh_items one s, weigh_items (item_cost g) s) (omega (arith, sum_most one (item_cost g) 0 (λ v. omega arith) (items s)))
 
 -- the empty bag costs nothing as an output bag
 pub empty_output : (g : Graph) → output_cost g empty_bag ≡ 0
@@ -46,21 +46,21 @@ empty_output g = rw empty_bag_lem (omega (arith, weigh_empty (item_cost g)))
 
 module _ (g : Graph) where
   -- a phase costs no more than with other labels, and k, if no vertex in hand does
-  pub phase-most : (a b : Labels) (k : ℕ) → ((v : ℕ) → hand_cost g b v ≤ hand_cost g a v + k) → (p : Phase) → phase_cost g b p ≤ phase_cost g a p + k
-  phase-most a b k most free = omega arith
-  phase-most a b k most (holding u i) = omega arith
-  phase-most a b k most (in_hand u i t) = omega (arith, most t)
-  phase-most a b k most (marked u i t) = omega arith
-  phase-most a b k most (named u i t) = omega arith
+  pub phase_most : (a b : Labels) (k : ℕ) → ((v : ℕ) → hand_cost g b v ≤ hand_cost g a v + k) → (p : Phase) → phase_cost g b p ≤ phase_cost g a p + k
+  phase_most a b k most free = omega arith
+  phase_most a b k most (holding u i) = omega arith
+  phase_most a b k most (in_hand u i t) = omega (arith, most t)
+  phase_most a b k most (marked u i t) = omega arith
+  phase_most a b k most (named u i t) = omega arith
 
   -- at edge i of u, or free after the last one: the edges left
   pub hold_cost : (x : Labels) (u i : ℕ) → phase_cost g x (hold_at g u i) ≡ degree g u - i
   hold_cost x u i = hold_cases g (λ p. phase_cost g x p ≡ degree g u - i) u i (λ past. omega arith) (λ there. refl)
 
   -- after a look one edge fewer is left, and an unset vertex that is in hand then costs the worker nothing
-  pub look-cost : (x : Labels) (u i : ℕ) → i < degree g u → suc (phase_cost g x (look g x u i)) ≤ degree g u - i
+  pub look_cost : (x : Labels) (u i : ℕ) → i < degree g u → suc (phase_cost g x (look g x u i)) ≤ degree g u - i
   unfolding look
-  look-cost x u i there = go (is_set (distance_of x (edge_target g u i))) refl
+  look_cost x u i there = go (is_set (distance_of x (edge_target g u i))) refl
     where
       go : (b : Bool) → is_set (distance_of x (edge_target g u i)) ≡ b
           → suc (phase_cost g x (cond b (hold_at g u (suc i)) (in_hand u i (edge_target g u i)))) ≤ degree g u - i
@@ -70,29 +70,29 @@ module _ (g : Graph) where
 -- Labels.
 
 -- all labels unset: 6 for each vertex and 1 for each edge
-unsets-all : (g : Graph) → unsets_cost (replicate (length g) none) g ≡ 6 * length g + length (flatten g)
+unsets_all : (g : Graph) → unsets_cost (replicate (length g) none) g ≡ 6 * length g + length (flatten g)
 unfolding unsets_cost flatten
-unsets-all [] = refl
-unsets-all (row ∷ g) = omega (arith, unsets-all g, length-append row (flatten g))
+unsets_all [] = refl
+unsets_all (row ∷ g) = omega (arith, unsets_all g, length-append row (flatten g))
 
 -- a label set: the unset vertices cost less by what that vertex cost as one of them
-pub unsets-set : (l : List (Option ℕ)) (g : Graph) (t k : ℕ) → length l ≡ length g → t < length l
+pub unsets_set : (l : List (Option ℕ)) (g : Graph) (t k : ℕ) → length l ≡ length g → t < length l
     → unsets_cost (set l t (some k)) g + unset_cost (get_or l t none) (edges g t) ≡ unsets_cost l g
 unfolding unsets_cost edges
-unsets-set [] g t k same h = absurd (omega arith)
-unsets-set (o ∷ l) [] t k same h = absurd (omega arith)
-unsets-set (o ∷ l) (row ∷ g) zero k same h = omega arith
-unsets-set (o ∷ l) (row ∷ g) (suc t) k same h = omega (arith, unsets-set l g t k (omega arith) (omega arith))
+unsets_set [] g t k same h = absurd (omega arith)
+unsets_set (o ∷ l) [] t k same h = absurd (omega arith)
+unsets_set (o ∷ l) (row ∷ g) zero k same h = omega arith
+unsets_set (o ∷ l) (row ∷ g) (suc t) k same h = omega (arith, unsets_set l g t k (omega arith) (omega arith))
 
 -- only the source set
-pub unsets-source : (g : Graph) (source : ℕ) → source < length g
+pub unsets_source : (g : Graph) (source : ℕ) → source < length g
     → unsets_cost (set (replicate (length g) none) source (some 0)) g + (6 + degree g source) ≡ 6 * length g + length (flatten g)
-unsets-source g source h =
+unsets_source g source h =
     let unset : List (Option ℕ) = replicate (length g) none in
     let long = length-replicate {A = Option ℕ} (length g) none in
-    let here = get_or-repeated {A = Option ℕ} (length g) source none in
-    let one_set = rw here at (unsets-set unset g source 0 long (omega arith)) in
-    omega (arith, unsets-all g)
+    let here = get_or_repeated {A = Option ℕ} (length g) source none in
+    let one_set = rw here at (unsets_set unset g source 0 long (omega arith)) in
+    omega (arith, unsets_all g)
 
 -- a vertex is paid for with the unset ones, or by the worker that has it in hand
 hand_paid : (o : Option ℕ) (row : List ℕ) → cond (is_set o) (6 + length row) 0 + unset_cost o row ≡ 6 + length row

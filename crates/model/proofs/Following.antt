@@ -12,12 +12,12 @@ use native.Mathlib.Decide.{ℕ_discrete}
 use native.Mathlib.Omega.{arith}
 use lib.ListN.{length, length-set}
 use lib.Seq.{get_or-set_same, get_or-set_other}
-use Rattle.lists.proofs.Parts.{place-below}
+use Rattle.lists.proofs.Parts.{place_below}
 use Rattle.graph.specs.Graph.{Graph}
 use Rattle.model.specs.Paths.{edge_target, Labels, distance_of, parent_of, is_set}
 use Rattle.model.specs.Table.{mark, name}
 use Rattle.model.specs.Serial.{EdgeAt, is_at, follow}
-use Rattle.model.proofs.LayerEdges.{at-is, is-at}
+use Rattle.model.proofs.LayerEdges.{at_is, is-at}
 
 -- the labels of a vertex on the way to x: as in x; or blank, and then its distance in x is above d, if it has one
 pub data Stands (x : Labels) (d v : ℕ) (distance parent : Option ℕ) : Type 0 where
@@ -26,22 +26,22 @@ pub data Stands (x : Labels) (d v : ℕ) (distance parent : Option ℕ) : Type 0
 
 -- labels y on the way to x, from distance d on: every vertex stands so
 pub record Partly (x : Labels) (d : ℕ) (y : Labels) : Type 0 where
-  pub distances-all : length y.distances ≡ length x.distances
-  pub parents-all : length y.parents ≡ length x.parents
+  pub distances_all : length y.distances ≡ length x.distances
+  pub parents_all : length y.parents ≡ length x.parents
   pub each : (v : ℕ) → Stands x d v (distance_of y v) (parent_of y v)
 
 module _ {x : Labels} {d : ℕ} {y : Labels} (p : Partly x d y) where
   -- what is set is as in x
-  pub set-final : (v k : ℕ) → distance_of y v ≡ some k → distance_of x v ≡ some k
-  set-final v k e = go (p.each v)
+  pub set_final : (v k : ℕ) → distance_of y v ≡ some k → distance_of x v ≡ some k
+  set_final v k e = go (p.each v)
     where
       go : Stands x d v (distance_of y v) (parent_of y v) → distance_of x v ≡ some k
       go (final j far here named) = cc
       go (blank away unset no_parent_lem) = absurd (none-ne-some k (sym unset ∙ e))
 
   -- distances up to d are set
-  pub near-set : (v k : ℕ) → distance_of x v ≡ some k → k ≤ d → distance_of y v ≡ some k
-  near-set v k e h = go (p.each v)
+  pub near_set : (v k : ℕ) → distance_of x v ≡ some k → k ≤ d → distance_of y v ≡ some k
+  near_set v k e h = go (p.each v)
     where
       go : Stands x d v (distance_of y v) (parent_of y v) → distance_of y v ≡ some k
       go (final j far here named) = cc
@@ -49,7 +49,7 @@ module _ {x : Labels} {d : ℕ} {y : Labels} (p : Partly x d y) where
 
   -- the same labels are on the way from another distance on, if distances up to that are set
   pub raise : (k : ℕ) → ((v j : ℕ) → distance_of x v ≡ some j → j ≤ k → distance_of y v ≡ some j) → Partly x k y
-  raise k h = record { distances-all = p.distances-all; parents-all = p.parents-all; each = λ v. go v (p.each v) }
+  raise k h = record { distances_all = p.distances_all; parents_all = p.parents_all; each = λ v. go v (p.each v) }
     where
       go : (v : ℕ) → Stands x d v (distance_of y v) (parent_of y v) → Stands x k v (distance_of y v) (parent_of y v)
       go v (final j far here named) = final j far here named
@@ -75,7 +75,7 @@ module _ (g : Graph) (x : Labels) (d : ℕ) where
   unfolding is_tree
   tree_is e h =
       let both = (and-eq-true_iff (is_at (suc d) (distance_of x (end e))) (is_at e.start (parent_of x (end e)))).0 h in
-      record { far = at-is (suc d) (distance_of x (end e)) both.0; named = at-is e.start (parent_of x (end e)) both.1 }
+      record { far = at_is (suc d) (distance_of x (end e)) both.0; named = at_is e.start (parent_of x (end e)) both.1 }
 
   -- and the other way
   pub is-tree : {e : EdgeAt} → TreeEdge e → is_tree e ≡ true
@@ -100,10 +100,10 @@ module _ (g : Graph) (x : Labels) (d : ℕ) where
       z = name e.start t (mark d t y)
 
       now : distance_of z t ≡ some (suc d)
-      now = get_or-set_same y.distances t (some (suc d)) none (rw p.distances-all (place-below x.distances t h.far))
+      now = get_or-set_same y.distances t (some (suc d)) none (rw p.distances_all (place_below x.distances t h.far))
 
       by : parent_of z t ≡ some e.start
-      by = get_or-set_same y.parents t (some e.start) none (rw p.parents-all (place-below x.parents t h.named))
+      by = get_or-set_same y.parents t (some e.start) none (rw p.parents_all (place_below x.parents t h.named))
 
       stand : (v : ℕ) → Dec (v ≡ t) → Stands x d v (distance_of z v) (parent_of z v)
       stand v (yes q) = rw q (final (suc d) h.far now (by ∙ sym h.named))
@@ -117,12 +117,12 @@ module _ (g : Graph) (x : Labels) (d : ℕ) where
       go (some k) q = record {
         partly = p;
         stays = λ v j r. r;
-        reached = λ f m. rw (Memᴰ.eq_of_singleton m) (q ∙ sym (set-final p t k q) ∙ h.far);
+        reached = λ f m. rw (Memᴰ.eq_of_singleton m) (q ∙ sym (set_final p t k q) ∙ h.far);
       }
       go none q = record {
         partly = record {
-          distances-all = length-set y.distances t (some (suc d)) ∙ p.distances-all;
-          parents-all = length-set y.parents t (some e.start) ∙ p.parents-all;
+          distances_all = length-set y.distances t (some (suc d)) ∙ p.distances_all;
+          parents_all = length-set y.parents t (some e.start) ∙ p.parents_all;
           each = λ v. stand v (ℕ_discrete v t);
         };
         stays = λ v k r. stay v k q r (ℕ_discrete v t);
@@ -130,12 +130,12 @@ module _ (g : Graph) (x : Labels) (d : ℕ) where
       }
 
   -- many of them
-  pub follow-tree : (y : Labels) (list : List EdgeAt) → Partly x d y → ((e : EdgeAt) → Memᴰ e list → TreeEdge e)
+  pub follow_tree : (y : Labels) (list : List EdgeAt) → Partly x d y → ((e : EdgeAt) → Memᴰ e list → TreeEdge e)
       → Followed y list (foldl (follow g d) y list)
-  follow-tree y [] p h = record { partly = p; stays = λ v k r. r; reached = λ e m. absurd (Memᴰ.not-nil m) }
-  follow-tree y (e ∷ list) p h =
+  follow_tree y [] p h = record { partly = p; stays = λ v k r. r; reached = λ e m. absurd (Memᴰ.not-nil m) }
+  follow_tree y (e ∷ list) p h =
       let one = follow_one y e p (h e (Memᴰ.head refl)) in
-      let rest = follow-tree (follow g d y e) list one.partly (λ f m. h f (Memᴰ.tail m)) in
+      let rest = follow_tree (follow g d y e) list one.partly (λ f m. h f (Memᴰ.tail m)) in
       record {
         partly = rest.partly;
         stays = λ v k r. rest.stays v k (one.stays v k r);
@@ -151,8 +151,8 @@ module _ (g : Graph) (x : Labels) (d : ℕ) where
       go f now rest (inr m) = rest.reached f m
 
   -- links whose ends are set change nothing
-  pub follow-rest : (y : Labels) (list : List EdgeAt) → ((e : EdgeAt) → Memᴰ e list → is_set (distance_of y (end e)) ≡ true)
+  pub follow_rest : (y : Labels) (list : List EdgeAt) → ((e : EdgeAt) → Memᴰ e list → is_set (distance_of y (end e)) ≡ true)
       → foldl (follow g d) y list ≡ y
   unfolding follow
-  follow-rest y [] h = refl
-  follow-rest y (e ∷ list) h = rw (h e (Memᴰ.head refl)) (follow-rest y list (λ f m. h f (Memᴰ.tail m)))
+  follow_rest y [] h = refl
+  follow_rest y (e ∷ list) h = rw (h e (Memᴰ.head refl)) (follow_rest y list (λ f m. h f (Memᴰ.tail m)))

@@ -8,7 +8,7 @@ use native.Mathlib.Omega.{arith}
 use lib.ListN.{length, set, length-set}
 use lib.Seq.{get_or-set_same, get_or-set_other}
 use Rattle.lists.specs.Lists.{sum_of, some_one}
-use Rattle.lists.proofs.Sums.{sum-none, sum_first}
+use Rattle.lists.proofs.Sums.{sum_none, sum_first}
 use Rattle.lists.proofs.Replaced.{each_set}
 use Rattle.graph.specs.Graph.{Graph}
 use Rattle.pennant.specs.Bag.{Bag, empty_bag, is_empty}
@@ -27,29 +27,29 @@ use Rattle.model.proofs.Sound.{WorkerSound, CrewSound}
 pub record Spare (w : Worker) : Type 0 where
   pub idle : Idle w
   pub output_empty : is_empty w.output ≡ true
-  pub input-shaped : Shaped w.input
-  pub output-shaped : Shaped w.output
+  pub input_shaped : Shaped w.input
+  pub output_shaped : Shaped w.output
 
 -- a worker with two empty bags
 pub spare_idle : Spare idle_worker
 spare_idle = record {
   idle = idle-worker;
   output_empty = empty_bag_lem;
-  input-shaped = shaped_empty;
-  output-shaped = shaped_empty;
+  input_shaped = shaped_empty;
+  output_shaped = shaped_empty;
 }
 
 -- workers whose bags of one kind are all empty hold no copy of a vertex in them
 pub no_copies : (bagOf : Worker → Bag) (workers : List Worker) → ((w : ℕ) → is_empty (bagOf (worker_at workers w)) ≡ true)
     → (v : ℕ) → sum_of (λ (w : Worker). copies v (bagOf w)) workers ≡ 0
 no_copies bagOf workers empty v =
-    sum-none (λ (w : Worker). copies v (bagOf w)) idle_worker workers (λ w. empty_weighs (only v) (bagOf (worker_at workers w)) (empty w))
+    sum_none (λ (w : Worker). copies v (bagOf w)) idle_worker workers (λ w. empty_weighs (only v) (bagOf (worker_at workers w)) (empty w))
 
 -- workers that are all free
 module _ (workers : List Worker) (all-free : (w : ℕ) → (worker_at workers w).phase ≡ free) where
   -- weigh nothing, if a free one does
   pub none_busy : (f : Phase → ℕ) → f free ≡ 0 → sum_of (λ (w : Worker). f w.phase) workers ≡ 0
-  none_busy f z = sum-none (λ (w : Worker). f w.phase) idle_worker workers (λ w. rw (all-free w) z)
+  none_busy f z = sum_none (λ (w : Worker). f w.phase) idle_worker workers (λ w. rw (all-free w) z)
 
 -- The start of a layer.
 
@@ -62,7 +62,7 @@ pub record LayerBag (g : Graph) (source P d : ℕ) (bag : Bag) : Type 0 where
 
 -- P spare workers, at least one
 pub record SpareCrew (P : ℕ) (workers : List Worker) : Type 0 where
-  pub some-worker : 1 ≤ P
+  pub some_worker : 1 ≤ P
   pub crew : length workers ≡ P
   pub each : (w : ℕ) → Spare (worker_at workers w)
 
@@ -78,50 +78,50 @@ module _ {g : Graph} {source P d : ℕ} {spares : List Worker} {bag : Bag} (spar
 
   -- there is a first worker
   some_spare : 0 < length spares
-  some_spare = omega (arith, spare.some-worker, spare.crew)
+  some_spare = omega (arith, spare.some_worker, spare.crew)
 
   -- what holds of that worker and of every spare one holds of the crew
-  each-fresh : (Q : Worker → Type 0) → Q filled → ((w : ℕ) → Q (worker_at spares w)) → (w : ℕ) → Q (worker_at fresh w)
-  each-fresh Q new old = each_set Q spares 0 filled idle_worker new old
+  each_fresh : (Q : Worker → Type 0) → Q filled → ((w : ℕ) → Q (worker_at spares w)) → (w : ℕ) → Q (worker_at fresh w)
+  each_fresh Q new old = each_set Q spares 0 filled idle_worker new old
 
   -- output bags are empty
-  fresh-outputs : (w : ℕ) → is_empty (worker_at fresh w).output ≡ true
-  fresh-outputs = each-fresh (λ w. is_empty w.output ≡ true) empty_bag_lem (λ w. (spare.each w).output_empty)
+  fresh_outputs : (w : ℕ) → is_empty (worker_at fresh w).output ≡ true
+  fresh_outputs = each_fresh (λ w. is_empty w.output ≡ true) empty_bag_lem (λ w. (spare.each w).output_empty)
 
   -- all are free
-  fresh-free : (w : ℕ) → (worker_at fresh w).phase ≡ free
-  fresh-free = each-fresh (λ w. w.phase ≡ free) refl (λ w. (spare.each w).idle.phase-free)
+  fresh_free : (w : ℕ) → (worker_at fresh w).phase ≡ free
+  fresh_free = each_fresh (λ w. w.phase ≡ free) refl (λ w. (spare.each w).idle.phase_free)
 
   -- input bags hold what the bag holds
-  fresh-inputs : (v : ℕ) → inputs v fresh ≡ copies v bag
-  fresh-inputs v = sum_first (λ (w : Worker). copies v w.input) idle_worker spares filled some_spare
+  fresh_inputs : (v : ℕ) → inputs v fresh ≡ copies v bag
+  fresh_inputs v = sum_first (λ (w : Worker). copies v w.input) idle_worker spares filled some_spare
       (λ w. empty_weighs (only v) (worker_at spares w).input (spare.each w).idle.input_empty)
 
   -- the crew is sound, if no vertex is set for the next layer yet and each that is set has a parent
-  pub fresh-sound : {x : Labels} → ((v : ℕ) → distance_of x v ≡ some (suc d) → ⊥)
+  pub fresh_sound : {x : Labels} → ((v : ℕ) → distance_of x v ≡ some (suc d) → ⊥)
       → ((v : ℕ) → is_set (distance_of x v) ≡ true → 1 ≤ some_one (parent_of x v)) → CrewSound g source P d x fresh
-  fresh-sound {x} none-next parented = record {
+  fresh_sound {x} none-next parented = record {
     crew = length-set spares 0 filled ∙ spare.crew;
-    each = each-fresh (WorkerSound g source d x)
-        (record { input-shaped = holds.shaped; output-shaped = shaped_empty; phase-sound = tt })
+    each = each_fresh (WorkerSound g source d x)
+        (record { input_shaped = holds.shaped; output_shaped = shaped_empty; phase_sound = tt })
         (λ w. let old = spare.each w in
-        record { input-shaped = old.input-shaped; output-shaped = old.output-shaped; phase-sound = rw old.idle.phase-free tt });
-    input-near = λ v h. holds.no_other v (omega (arith, fresh-inputs v));
-    output-next = λ v h. absurd (omega (arith, no_copies (λ w. w.output) fresh fresh-outputs v));
-    covered = λ u i far there. omega (arith, fresh-inputs u, holds.every u far);
+        record { input_shaped = old.input_shaped; output_shaped = old.output_shaped; phase_sound = rw old.idle.phase_free tt });
+    input_near = λ v h. holds.no_other v (omega (arith, fresh_inputs v));
+    output_next = λ v h. absurd (omega (arith, no_copies (λ w. w.output) fresh fresh_outputs v));
+    covered = λ u i far there. omega (arith, fresh_inputs u, holds.every u far);
     stowed = λ v e. absurd (none-next v e);
-    few-outputs = λ v. omega (arith, no_copies (λ w. w.output) fresh fresh-outputs v, none_busy fresh fresh-free (hand_of v) refl);
-    few-inputs = λ v. omega (arith, fresh-inputs v, holds.at_most v);
+    few_outputs = λ v. omega (arith, no_copies (λ w. w.output) fresh fresh_outputs v, none_busy fresh fresh_free (hand_of v) refl);
+    few_inputs = λ v. omega (arith, fresh_inputs v, holds.at_most v);
     parented = λ v e. omega (arith, parented v e);
   }
 
   -- and the layer is open
-  pub fresh-opens : (x : Labels) (finished : Bool) → LayerOpen g source P (record { labels = x; workers = fresh; layer = d; finished = finished })
-  fresh-opens x finished = let first = get_or-set_same spares 0 filled idle_worker some_spare in record {
+  pub fresh_opens : (x : Labels) (finished : Bool) → LayerOpen g source P (record { labels = x; workers = fresh; layer = d; finished = finished })
+  fresh_opens x finished = let first = get_or-set_same spares 0 filled idle_worker some_spare in record {
     every = λ v far. rw first (holds.every v far);
     no_other = λ v h. holds.no_other v (rw first at h);
     at_most = λ v. rw first (holds.at_most v);
     inputs_empty = λ w h. rw (get_or-set_other spares 0 w filled idle_worker (λ e. omega arith)) (spare.each w).idle.input_empty;
-    outputs_empty = fresh-outputs;
-    all-free = fresh-free;
+    outputs_empty = fresh_outputs;
+    all-free = fresh_free;
   }

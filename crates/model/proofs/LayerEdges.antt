@@ -14,10 +14,10 @@ use Rattle.model.specs.Paths.{Labels, distance_of}
 use Rattle.model.specs.Serial.{EdgeAt, edges_from, is_at, layer_edges, any_at}
 
 -- a label that passes the test for d is set to d
-pub at-is : (d : ℕ) (o : Option ℕ) → is_at d o ≡ true → o ≡ some d
+pub at_is : (d : ℕ) (o : Option ℕ) → is_at d o ≡ true → o ≡ some d
 unfolding is_at
-at-is d none e = absurd (true≢false (sym e))
-at-is d (some k) e = ap {B = Option ℕ} some (eqb-true k d e)
+at_is d none e = absurd (true≢false (sym e))
+at_is d (some k) e = ap {B = Option ℕ} some (eqb-true k d e)
 
 -- and the other way
 pub is-at : (d : ℕ) {o : Option ℕ} → o ≡ some d → is_at d o ≡ true
@@ -32,7 +32,7 @@ at_some d (o ∷ l) e = go (is_at d o) refl e (at_some d l)
   where
     go : (b : Bool) → is_at d o ≡ b → (b || any_at d l) ≡ true → (any_at d l ≡ true → (v : ℕ) × (get_or l v none ≡ some d))
         → (v : ℕ) × (get_or (o ∷ l) v none ≡ some d)
-    go true q f rest = (0, at-is d o q)
+    go true q f rest = (0, at_is d o q)
     go false q f rest = let r = rest f in (suc r.0, r.1)
 
 -- if none is, it is the label of no vertex
@@ -60,12 +60,12 @@ module _ (g : Graph) (d : ℕ) (y : Labels) where
       in_rows edges_at (range_in below) (rw (edges_at, is-at d h.from) inside)
 
   -- and every one of them starts so
-  pub layer-only : (e : EdgeAt) → Memᴰ e (layer_edges g d y) → InLayer g d y e
+  pub layer_only : (e : EdgeAt) → Memᴰ e (layer_edges g d y) → InLayer g d y e
   unfolding layer_edges edges_from edges_at
-  layer-only e m = let r = row_of edges_at (numbers_from 0 (length g)) m in go r.row (is_at d (distance_of y r.row)) refl r.inside
+  layer_only e m = let r = row_of edges_at (numbers_from 0 (length g)) m in go r.row (is_at d (distance_of y r.row)) refl r.inside
     where
       go : (u : ℕ) (b : Bool) → is_at d (distance_of y u) ≡ b → Memᴰ e (cond b (edges_from g u) []) → InLayer g d y e
       go u true q n =
           let r = mathlib.Core.List.Memᴰ.of_map (λ (i : ℕ). record { start = u; place = i }) (numbers_from 0 (length (edges g u))) n in
-          subst (InLayer g d y) r.2 (record { from = at-is d (distance_of y u) q; there = range_below (length (edges g u)) r.1 })
+          subst (InLayer g d y) r.2 (record { from = at_is d (distance_of y u) q; there = range_below (length (edges g u)) r.1 })
       go u false q n = absurd (mathlib.Core.List.Memᴰ.not-nil n)

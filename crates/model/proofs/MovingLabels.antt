@@ -8,15 +8,15 @@ use lib.Dec.{leb}
 use lib.ListN.{length, set, length-set}
 use lib.Seq.{get_or-set_same, get_or-set_other}
 use borrow.Author.Tests.{leb-true, leb-false}
-use Rattle.lists.proofs.Sums.{sum-set}
+use Rattle.lists.proofs.Sums.{sum_set}
 use Rattle.lists.proofs.Replaced.{set_cases}
 use Rattle.graph.specs.Graph.{Graph}
 use Rattle.model.specs.Paths.{edge_target, Walk, Distance, Labels, distance_of, parent_of, is_set, Nearer}
 use Rattle.model.specs.Table.{mark, name}
 use Rattle.model.proofs.Counts.{unset_one, unsets}
 use Rattle.model.proofs.Sound.{Ground, LabelsSound, AtEdge, WithMark}
-use Rattle.model.proofs.Walks.{walk-below, walk_more, distance_unique, distance_source}
-use Rattle.model.proofs.LabelFacts.{set_value, layer-is}
+use Rattle.model.proofs.Walks.{walk_below, walk_more, distance_unique, distance_source}
+use Rattle.model.proofs.LabelFacts.{set_value, layer_is}
 
 -- a parent that is nearer stays so while the distances that are set stay
 nearer_kept : {g : Graph} {a b : Labels} {p v : ℕ} → ((u k : ℕ) → distance_of a u ≡ some k → distance_of b u ≡ some k) → Nearer g a p v → Nearer g b p v
@@ -29,8 +29,8 @@ module _ {g : Graph} {source d : ℕ} {a : Labels} (l : LabelsSound g source d a
   written_is {v = v} {k = k} e far = distance_unique (l.written v k e) far
 
   -- the unset target of an edge of this layer is in the next one
-  pub unset-next : {u i : ℕ} → AtEdge g source d u i → is_set (distance_of a (edge_target g u i)) ≡ false → Distance g source (edge_target g u i) (suc d)
-  unset-next {u = u} {i = i} at unset = record {
+  pub unset_next : {u i : ℕ} → AtEdge g source d u i → is_set (distance_of a (edge_target g u i)) ≡ false → Distance g source (edge_target g u i) (suc d)
+  unset_next {u = u} {i = i} at unset = record {
     walk = walk_more at.far.walk i at.there;
     least = λ k w. go k w (leb k d) refl;
   }
@@ -43,11 +43,11 @@ module _ {g : Graph} {source : ℕ} (ground : Ground g source) {d : ℕ} {a : La
   module _ {t : ℕ} (next : Distance g source t (suc d)) where
     -- a vertex of the next layer has a place for its distance
     pub has_distance : t < length a.distances
-    has_distance = rw l.distances-all (walk-below ground next.walk)
+    has_distance = rw l.distances_all (walk_below ground next.walk)
 
     -- and one for its parent
     has_parent : t < length a.parents
-    has_parent = rw l.parents-all (walk-below ground next.walk)
+    has_parent = rw l.parents_all (walk_below ground next.walk)
 
     -- a mark writes the distance
     pub mark_writes : distance_of (mark d t a) t ≡ some (suc d)
@@ -61,15 +61,15 @@ module _ {g : Graph} {source : ℕ} (ground : Ground g source) {d : ℕ} {a : La
     mark_cases v x e here there = set_cases a.distances t v (some (suc d)) none x has_distance e here there
 
     -- what is set stays as it is set
-    pub mark-keeps : (v k : ℕ) → distance_of a v ≡ some k → distance_of (mark d t a) v ≡ some k
-    mark-keeps v k e = mark_cases v (distance_of (mark d t a) v) refl
+    pub mark_keeps : (v k : ℕ) → distance_of a v ≡ some k → distance_of (mark d t a) v ≡ some k
+    mark_keeps v k e = mark_cases v (distance_of (mark d t a) v) refl
         (λ q r. let same = written_is l (rw q at e) next in sym r ∙ rw same)
         (λ apart r. sym r ∙ e)
 
     -- each layer up to that of the vertex marked has a vertex that is set
-    mark-room : d + 2 + unsets (mark d t a).distances ≤ length g
+    mark_room : d + 2 + unsets (mark d t a).distances ≤ length g
     unfolding mark
-    mark-room = go (distance_of a t) refl (sum-set unset_one a.distances t (some (suc d)) none has_distance)
+    mark_room = go (distance_of a t) refl (sum_set unset_one a.distances t (some (suc d)) none has_distance)
       where
         after : ℕ
         after = unsets (set a.distances t (some (suc d)))
@@ -79,25 +79,25 @@ module _ {g : Graph} {source : ℕ} (ground : Ground g source) {d : ℕ} {a : La
         go (some k) e h = omega (arith, rw e at h, l.more_room t (rw (written_is l e next) at e))
 
     -- the labels stay sound
-    pub mark-sound : LabelsSound g source d (mark d t a)
+    pub mark_sound : LabelsSound g source d (mark d t a)
     unfolding mark
-    mark-sound = record {
-      distances-all = length-set a.distances t (some (suc d)) ∙ l.distances-all;
-      parents-all = l.parents-all;
+    mark_sound = record {
+      distances_all = length-set a.distances t (some (suc d)) ∙ l.distances_all;
+      parents_all = l.parents_all;
       written = λ v k e. mark_cases v (some k) e (λ q r. rw (q, ← some-injective (suc d) k r) next) (λ apart. l.written v k);
-      not-far = λ v k e. mark_cases v (some k) e (λ q r. omega (arith, some-injective (suc d) k r)) (λ apart. l.not-far v k);
-      near = λ v k w h. let x = set_value (distance_of a v) (l.near v k w h) in rw (mark-keeps v x.value x.is);
-      some-vertex = l.some-vertex;
-      room = omega (arith, mark-room);
-      more_room = λ v e. mark-room;
-      own-parent = l.own-parent;
-      parent = λ v p apart e. nearer_kept mark-keeps (l.parent v p apart e);
+      not_far = λ v k e. mark_cases v (some k) e (λ q r. omega (arith, some-injective (suc d) k r)) (λ apart. l.not_far v k);
+      near = λ v k w h. let x = set_value (distance_of a v) (l.near v k w h) in rw (mark_keeps v x.value x.is);
+      some_vertex = l.some_vertex;
+      room = omega (arith, mark_room);
+      more_room = λ v e. mark_room;
+      own_parent = l.own_parent;
+      parent = λ v p apart e. nearer_kept mark_keeps (l.parent v p apart e);
     }
 
   module _ {u i t : ℕ} (w : WithMark g source d a u i t) where
     -- a marked vertex isn't the source
-    name-apart : source ≡ t → ⊥
-    name-apart q = omega (arith, distance_unique (rw (← q) at w.found.next) distance_source)
+    name_apart : source ≡ t → ⊥
+    name_apart q = omega (arith, distance_unique (rw (← q) at w.found.next) distance_source)
 
     -- a parent after a name is that of the vertex named, or is as it was
     pub name_cases : {R : Type 0} (v : ℕ) (x : Option ℕ) → parent_of (name u t a) v ≡ x
@@ -111,23 +111,23 @@ module _ {g : Graph} {source : ℕ} (ground : Ground g source) {d : ℕ} {a : La
     name_nearer = record {
       edge = record { place = i; there = w.found.at.there; leads = w.found.leads };
       depth = d;
-      here = layer-is l u w.found.at.far;
+      here = layer_is l u w.found.at.far;
       there = w.marked;
     }
 
     -- the labels stay sound
-    pub name-sound : LabelsSound g source d (name u t a)
+    pub name_sound : LabelsSound g source d (name u t a)
     unfolding name
-    name-sound = record {
-      distances-all = l.distances-all;
-      parents-all = length-set a.parents t (some u) ∙ l.parents-all;
+    name_sound = record {
+      distances_all = l.distances_all;
+      parents_all = length-set a.parents t (some u) ∙ l.parents_all;
       written = l.written;
-      not-far = l.not-far;
+      not_far = l.not_far;
       near = l.near;
-      some-vertex = l.some-vertex;
+      some_vertex = l.some_vertex;
       room = l.room;
       more_room = l.more_room;
-      own-parent = get_or-set_other a.parents t source (some u) none name-apart ∙ l.own-parent;
+      own_parent = get_or-set_other a.parents t source (some u) none name_apart ∙ l.own_parent;
       parent = λ v p apart e. name_cases v (some p) e
           (λ q r. rw (q, ← some-injective u p r) name_nearer)
           (λ other r. nearer_kept (λ z k s. s) (l.parent v p apart r));

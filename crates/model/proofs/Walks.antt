@@ -5,7 +5,7 @@ use Prim.Native.Nat.{ℕ, zero, suc, ◌+◌, ◌-◌, ◌≤◌, ◌<◌}
 use native.Mathlib.Nat.{zero-add, suc-add}
 use native.Mathlib.Omega.{arith}
 use lib.ListN.{length}
-use Rattle.lists.proofs.Tests.{reaches-row, reaches-at}
+use Rattle.lists.proofs.Tests.{reaches_row, reaches_at}
 use Rattle.graph.specs.Graph.{Graph, edges, targets_of}
 use Rattle.model.specs.Paths.{edge_target, Joins, Walk, stay, onward, Distance}
 use Rattle.model.proofs.Sound.{Ground}
@@ -14,12 +14,12 @@ module _ {g : Graph} {source : ℕ} (ground : Ground g source) where
   -- every target is a vertex
   pub target_below : (u i : ℕ) → i < length (edges g u) → edge_target g u i < length g
   unfolding targets_of edges
-  target_below u i h = reaches-at (length g) (edges g u) i (reaches-row (length g) g u ground.below) h
+  target_below u i h = reaches_at (length g) (edges g u) i (reaches_row (length g) g u ground.below) h
 
   -- every path ends at a vertex
-  pub walk-below : {v k : ℕ} → Walk g source v k → v < length g
-  walk-below stay = ground.starts
-  walk-below (onward {u = u} w e) = rw e.leads at (target_below u e.place e.there)
+  pub walk_below : {v k : ℕ} → Walk g source v k → v < length g
+  walk_below stay = ground.starts
+  walk_below (onward {u = u} w e) = rw e.leads at (target_below u e.place e.there)
 
 -- the last link of a path of d + 1 links, and the path before it
 pub record LastEdge (g : Graph) (source v d : ℕ) : Type 0 where
@@ -33,14 +33,14 @@ module _ {g : Graph} {source : ℕ} where
   walk_more w i there = onward w (record { place = i; there = there; leads = refl })
 
   -- a path of no link ends at the source
-  pub walk-zero : {v k : ℕ} → Walk g source v k → k ≡ 0 → v ≡ source
-  walk-zero stay e = refl
-  walk-zero (onward w j) e = absurd (omega arith)
+  pub walk_zero : {v k : ℕ} → Walk g source v k → k ≡ 0 → v ≡ source
+  walk_zero stay e = refl
+  walk_zero (onward w j) e = absurd (omega arith)
 
   -- a path of one link more than d has a last link
-  pub walk-last : {v k : ℕ} → Walk g source v k → (d : ℕ) → k ≡ suc d → LastEdge g source v d
-  walk-last stay d e = absurd (omega arith)
-  walk-last (onward {u = u} {k = k} w j) d e = let same : k ≡ d = omega arith in record { before = u; walk = rw same at w; edge = j }
+  pub walk_last : {v k : ℕ} → Walk g source v k → (d : ℕ) → k ≡ suc d → LastEdge g source v d
+  walk_last stay d e = absurd (omega arith)
+  walk_last (onward {u = u} {k = k} w j) d e = let same : k ≡ d = omega arith in record { before = u; walk = rw same at w; edge = j }
 
   -- a distance is the only one
   pub distance_unique : {v k j : ℕ} → Distance g source v k → Distance g source v j → k ≡ j
@@ -53,7 +53,7 @@ module _ {g : Graph} {source : ℕ} where
   -- a shortest path is one up to its last link too
   distance_before : {v d : ℕ} → Distance g source v (suc d) → (u : ℕ) × Distance g source u d
   distance_before {d = d} far =
-      let last = walk-last far.walk d refl in
+      let last = walk_last far.walk d refl in
       (last.before, record { walk = last.walk; least = λ k w. omega (arith, far.least (suc k) (onward w last.edge)) })
 
   -- so there is a vertex j links nearer

@@ -49,34 +49,34 @@ module _ {A : Type 0} (bagOf : A → Bag) where
 -- a worker that is free and whose input bag is empty
 pub record Idle (w : Worker) : Type 0 where
   pub input_empty : is_empty w.input ≡ true
-  pub phase-free : w.phase ≡ free
+  pub phase_free : w.phase ≡ free
 
 -- a worker with two empty bags is
 pub idle-worker : Idle idle_worker
-idle-worker = record { input_empty = empty_bag_lem; phase-free = refl }
+idle-worker = record { input_empty = empty_bag_lem; phase_free = refl }
 
 -- the test for a free worker
-free-phase : (p : Phase) → is_free p ≡ true → p ≡ free
+free_phase : (p : Phase) → is_free p ≡ true → p ≡ free
 unfolding is_free
-free-phase free e = refl
-free-phase (holding u i) e = absurd (true≢false (sym e))
-free-phase (in_hand u i t) e = absurd (true≢false (sym e))
-free-phase (marked u i t) e = absurd (true≢false (sym e))
-free-phase (named u i t) e = absurd (true≢false (sym e))
+free_phase free e = refl
+free_phase (holding u i) e = absurd (true≢false (sym e))
+free_phase (in_hand u i t) e = absurd (true≢false (sym e))
+free_phase (marked u i t) e = absurd (true≢false (sym e))
+free_phase (named u i t) e = absurd (true≢false (sym e))
 
 -- all are idle: the first is, and so are the others
-pub idle-first : (x : Worker) (workers : List Worker) → all_idle (x ∷ workers) ≡ true → Idle x × (all_idle workers ≡ true)
+pub idle_first : (x : Worker) (workers : List Worker) → all_idle (x ∷ workers) ≡ true → Idle x × (all_idle workers ≡ true)
 unfolding all_idle
-idle-first x workers e =
+idle_first x workers e =
     let both = (and-eq-true_iff (is_free x.phase && is_empty x.input) (all_idle workers)).0 e in
     let first = (and-eq-true_iff (is_free x.phase) (is_empty x.input)).0 both.0 in
-    (record { input_empty = first.1; phase-free = free-phase x.phase first.0 }, both.1)
+    (record { input_empty = first.1; phase_free = free_phase x.phase first.0 }, both.1)
 
 -- so each is, and past the last one
-pub idle-each : (workers : List Worker) → all_idle workers ≡ true → (w : ℕ) → Idle (worker_at workers w)
-idle-each [] e w = idle-worker
-idle-each (x ∷ workers) e zero = (idle-first x workers e).0
-idle-each (x ∷ workers) e (suc w) = idle-each workers (idle-first x workers e).1 w
+pub idle_each : (workers : List Worker) → all_idle workers ≡ true → (w : ℕ) → Idle (worker_at workers w)
+idle_each [] e w = idle-worker
+idle_each (x ∷ workers) e zero = (idle_first x workers e).0
+idle_each (x ∷ workers) e (suc w) = idle_each workers (idle_first x workers e).1 w
 
 -- and the other way
 pub all-idle : (workers : List Worker) → ((w : ℕ) → w < length workers → Idle (worker_at workers w)) → all_idle workers ≡ true
@@ -84,7 +84,7 @@ unfolding all_idle is_free
 all-idle [] h = refl
 all-idle (w ∷ workers) h =
     let first = h 0 (omega arith) in
-    rw (first.phase-free, first.input_empty) (all-idle workers (λ i k. h (suc i) (omega arith)))
+    rw (first.phase_free, first.input_empty) (all-idle workers (λ i k. h (suc i) (omega arith)))
 
 -- Effective events.
 
@@ -99,9 +99,9 @@ module _ (g : Graph) (s : State) where
   move_at w = move_of g s.layer s.labels (worker_at s.workers w)
 
   -- a work: the worker has a move
-  pub work-met : {t : State} (w : ℕ) → act g s (Work w) ≡ some t → (m : Worker × Labels) × (move_at w ≡ some m) × (moved_state s w m ≡ t)
+  pub work_met : {t : State} (w : ℕ) → act g s (Work w) ≡ some t → (m : Worker × Labels) × (move_at w ≡ some m) × (moved_state s w m ≡ t)
   unfolding act after_move
-  work-met {t} w e = go (move_at w) refl e
+  work_met {t} w e = go (move_at w) refl e
     where
       go : (o : Option (Worker × Labels)) → move_at w ≡ o → after_move s w o ≡ some t
           → (m : Worker × Labels) × (move_at w ≡ some m) × (moved_state s w m ≡ t)
@@ -131,6 +131,6 @@ module _ (g : Graph) (s : State) where
       (not-true from both.0, not-true into both.1, met.1)
 
   -- a close: all workers are idle
-  pub close-met : {t : State} → act g s Close ≡ some t → (all_idle s.workers ≡ true) × (closed s (united_outputs s.workers) ≡ t)
+  pub close_met : {t : State} → act g s Close ≡ some t → (all_idle s.workers ≡ true) × (closed s (united_outputs s.workers) ≡ t)
   unfolding act
-  close-met {t} e = effective _ (closed s (united_outputs s.workers)) t e
+  close_met {t} e = effective _ (closed s (united_outputs s.workers)) t e

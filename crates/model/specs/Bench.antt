@@ -44,7 +44,8 @@ answers_of o =
 unfoldable pub outcome_of_case : Case → Expected
 outcome_of_case (searching words source P schedule places) =
     answers_of (outcome_of_search (bytes_of words) source P schedule (lent_for places))
-outcome_of_case (splitting elements) = sizes (size (split_first (up_to elements))) (size (split_second (up_to elements)))
+outcome_of_case (splitting elements) =
+    sizes (size (split_first (up_to elements))) (size (split_second (up_to elements)))
 
 -- A: "Sheet: 0 nine times, 192, 72, 0, 8, 0, 8, 0, 8," and then events 18 and 19, "0, 8, 192, 0, 0, 192" (§14.1)
 abbrev pub schedule_a : ℕ → ℕ → List ℕ

@@ -88,7 +88,8 @@ early_refusals file source P schedule lengths =
 
 -- ".. 5, 6", all of it before the schedule is played (§10.2)
 unfoldable pub input_refusals : List ℕ → ℕ → ℕ → List ℕ → Lent → List Refusal
-input_refusals file source P schedule lent = early_refusals file source P schedule (lengths_of lent) ++ chain_refusals file
+input_refusals file source P schedule lent =
+    early_refusals file source P schedule (lengths_of lent) ++ chain_refusals file
 
 -- "then .. 21" (§10.2)
 unfoldable pub search_refusals : List ℕ → ℕ → ℕ → List ℕ → Lent → List Refusal

@@ -15,13 +15,13 @@ use Rattle.model.specs.Play.{play, state_at, met_at, rounds, event_bound}
 use Rattle.model.specs.Serial.{Serial}
 use Rattle.model.specs.Histogram.{counts_at, Counts}
 
--- what is asked: targets and source below n, "P 1 to 8", and a schedule of well_formed bytes;
+-- what is asked: targets and source below n, "P 1 to 8", and a schedule of well-formed bytes;
 -- each follows from acceptance by document 01
 pub record Accepted (g : Graph) (source P : ℕ) (schedule : List ℕ) : Type 0 where
-  pub targets-below : reaches (length g) (targets_of g) ≡ false
-  pub source-below : source < length g
-  pub some-worker : 1 ≤ P
-  pub few-workers : P ≤ max_workers
+  pub targets_below : reaches (length g) (targets_of g) ≡ false
+  pub source_below : source < length g
+  pub some_worker : 1 ≤ P
+  pub few_workers : P ≤ max_workers
   pub formed : any_stray P schedule ≡ false
 
 -- A layer that opens: "it then holds what worker 0's input bag holds, and all other bags are empty". It holds
@@ -49,30 +49,30 @@ held workers = sum_of (λ (w : Worker). size w.input + size w.output) workers
 pub record Fitting (g : Graph) (P : ℕ) (s : State) : Type 0 where
   pub all_there : length s.workers ≡ P
   pub all_held : held s.workers ≤ P * length g
-  pub inputs-low : length g ≤ max_vertices → (w k : ℕ) → slot_count ≤ k
+  pub inputs_low : length g ≤ max_vertices → (w k : ℕ) → slot_count ≤ k
       → is_gap (get_or (worker_at s.workers w).input k gap) ≡ true
-  pub outputs-low : length g ≤ max_vertices → (w k : ℕ) → slot_count ≤ k
+  pub outputs_low : length g ≤ max_vertices → (w k : ℕ) → slot_count ≤ k
       → is_gap (get_or (worker_at s.workers w).output k gap) ≡ true
-  pub inputs-below : (w v : ℕ) → 1 ≤ copies v (worker_at s.workers w).input → v < length g
-  pub distances-all : length s.labels.distances ≡ length g
-  pub parents-all : length s.labels.parents ≡ length g
-  pub distances-below : (v d : ℕ) → distance_of s.labels v ≡ some d → d < length g
-  pub parents-below : (v p : ℕ) → parent_of s.labels v ≡ some p → p < length g
+  pub inputs_below : (w v : ℕ) → 1 ≤ copies v (worker_at s.workers w).input → v < length g
+  pub distances_all : length s.labels.distances ≡ length g
+  pub parents_all : length s.labels.parents ≡ length g
+  pub distances_below : (v d : ℕ) → distance_of s.labels v ≡ some d → d < length g
+  pub parents_below : (v p : ℕ) → parent_of s.labels v ≡ some p → p < length g
   pub layer_below : s.layer < length g
 
 -- "the finishing event": the byte at this place, which is the last one used (§6.9)
 pub record Finisher (g : Graph) (source P : ℕ) (schedule : List ℕ) (used : ℕ) : Type 0 where
   pub place : ℕ
-  pub last-used : used ≡ suc place
+  pub last_used : used ≡ suc place
   pub before : (state_at g source P schedule place).finished ≡ false
   pub after : (state_at g source P schedule (suc place)).finished ≡ true
 
 -- the claim, over the places 0, 1, .. of the one schedule: the state after k bytes is `state_at g source P schedule k`
 pub record Demand (g : Graph) (source P : ℕ) (schedule : List ℕ) : Type 0 where
   -- (a) (§7.2) "A layer opens at the start ..
-  pub first-layer : LayerOpen g source P (state_at g source P schedule 0)
+  pub first_layer : LayerOpen g source P (state_at g source P schedule 0)
   -- .. and at each close that raises d"
-  pub each-layer : (k : ℕ) → k < length schedule
+  pub each_layer : (k : ℕ) → k < length schedule
       → ((state_at g source P schedule (suc k)).layer ≡ (state_at g source P schedule k).layer → ⊥)
       → LayerOpen g source P (state_at g source P schedule (suc k))
   -- (b) "Written distances are final at any moment of a run." What is written after any number of bytes is the
@@ -86,11 +86,11 @@ pub record Demand (g : Graph) (source P : ℕ) (schedule : List ℕ) : Type 0 wh
   -- .. and below it while the search isn't finished (§7.4)
   pub below : (play g source P schedule).state.finished ≡ false → (play g source P schedule).effective < event_bound g P
   -- (d) as many full rounds as the bound, wherever they stand, finish the search (§7.5)
-  pub enough-rounds : event_bound g P ≤ rounds P schedule → (play g source P schedule).state.finished ≡ true
+  pub enough_rounds : event_bound g P ≤ rounds P schedule → (play g source P schedule).state.finished ≡ true
   -- (e) the result of a finished search is right (§7.6)
   pub right_result : (play g source P schedule).state.finished ≡ true
       → RightResult g source (play g source P schedule).state.labels
-  -- (f) a finished run ends as a link_by_link run does, with some order of each layer's links (§7.8)
+  -- (f) a finished run ends as a link-by-link run does, with some order of each layer's links (§7.8)
   pub link_by_link : (play g source P schedule).state.finished ≡ true
       → Serial g 0 (opening_labels (length g) source) (play g source P schedule).state.labels
   -- "The effective events reported are the number of used bytes whose condition, by that table, was met at their turn."
@@ -98,12 +98,12 @@ pub record Demand (g : Graph) (source P : ℕ) (schedule : List ℕ) : Type 0 wh
   pub counted : (play g source P schedule).effective
       ≡ sum_of (met_at g source P schedule) (numbers_from 0 (play g source P schedule).used)
   -- "Events used are the bytes up to and with the finishing one, with 21 all of them." (§6.9)
-  pub used-spent : (play g source P schedule).state.finished ≡ false → (play g source P schedule).used ≡ length schedule
-  pub used-finished : (play g source P schedule).state.finished ≡ true
+  pub used_spent : (play g source P schedule).state.finished ≡ false → (play g source P schedule).used ≡ length schedule
+  pub used_finished : (play g source P schedule).state.finished ≡ true
       → Finisher g source P schedule (play g source P schedule).used
   -- (g) the counts as they are kept: "It must equal a recount of the distance list after each event", and what they
   -- tell (§7.9)
-  pub counts-told : (k : ℕ) → Counts (state_at g source P schedule k).labels.distances
+  pub counts_told : (k : ℕ) → Counts (state_at g source P schedule k).labels.distances
       (state_at g source P schedule k).layer (counts_at g source P schedule k)
   -- for the engine's lists, at every moment
   pub fitting : (k : ℕ) → Fitting g P (state_at g source P schedule k)

@@ -63,4 +63,4 @@ pub record Counts (distances : List (Option ℕ)) (d : ℕ) (counts : List ℕ) 
   pub zero_absent : (h v : ℕ) → get_or counts h 0 ≡ 0 → get_or distances v none ≡ some h → ⊥
   pub absent_zero : (h : ℕ) → ((v : ℕ) → get_or distances v none ≡ some h → ⊥) → get_or counts h 0 ≡ 0
   -- places 0 to d are positive
-  pub up-to-layer : (h : ℕ) → h ≤ d → 1 ≤ get_or counts h 0
+  pub up_to_layer : (h : ℕ) → h ≤ d → 1 ≤ get_or counts h 0

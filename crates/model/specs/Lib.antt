@@ -1,4 +1,4 @@
--- Distances of a graph, the event table and its play, the link_by_link run, how many vertices stand at each distance,
+-- Distances of a graph, the event table and its play, the link-by-link run, how many vertices stand at each distance,
 -- the whole call's outcome, and what demand 3 claims. Read in this order.
 pub mod Paths
 pub mod Words

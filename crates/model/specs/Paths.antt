@@ -53,14 +53,14 @@ pub record Nearer (g : Graph) (x : Labels) (p v : ℕ) : Type 0 where
 -- devices have an unset parent, and each other parent has a link to its device and a distance one less" (§8.1)
 pub record RightResult (g : Graph) (s : ℕ) (x : Labels) : Type 0 where
   -- a place for each device in both lists
-  pub distances-all : length x.distances ≡ length g
-  pub parents-all : length x.parents ≡ length g
+  pub distances_all : length x.distances ≡ length g
+  pub parents_all : length x.parents ≡ length g
   -- "distances are right for every device": a set one is the length of a shortest path ..
   pub shortest : (v d : ℕ) → v < length g → distance_of x v ≡ some d → Distance g s v d
   -- .. and an unset one means that no path leads there
   pub unreached : (v k : ℕ) → v < length g → distance_of x v ≡ none → Walk g s v k → ⊥
   -- "the source is its own parent"
-  pub own-parent : parent_of x s ≡ some s
+  pub own_parent : parent_of x s ≡ some s
   -- "unreached devices have an unset parent"
   pub no_parent_lem : (v : ℕ) → v < length g → distance_of x v ≡ none → parent_of x v ≡ none
   -- "each other parent has a link to its device and a distance one less"

@@ -1,4 +1,4 @@
--- The link_by_link run, B of demand 3: no workers, and each layer's links in any one order.
+-- The link-by-link run, B of demand 3: no workers, and each layer's links in any one order.
 use Rattle.std.specs.Prelude.{◌≡◌, Bool, true, false, cond, ◌||◌, ℕ, suc, eqb, length}
 use mathlib.Core.List.{List, [], ◌∷◌, map, flatten, foldl, Permᴰ}
 use Rattle.std.proofs.Math.Option.{Option, none, some}

@@ -12,9 +12,9 @@ Positive [] = Unit {0}
 Positive (test gives number ∷ rest) = (0 < number) × Positive rest
 
 -- a test that holds gives its number
-pub first-stop : (test : Bool) (number : ℕ) (rest : List Refusal) → test ≡ true → first (test gives number ∷ rest) ≡ number
+pub first_stop : (test : Bool) (number : ℕ) (rest : List Refusal) → test ≡ true → first (test gives number ∷ rest) ≡ number
 unfolding first
-first-stop test number rest e = rw e
+first_stop test number rest e = rw e
 
 -- a test that fails leaves the number to the rest
 pub first_skip : (test : Bool) (number : ℕ) (rest : List Refusal) → test ≡ false → first (test gives number ∷ rest) ≡ first rest
@@ -22,10 +22,10 @@ unfolding first
 first_skip test number rest e = rw e
 
 -- where nothing is refused, each test fails and the rest refuses nothing
-pub first-passed : (test : Bool) (number : ℕ) (rest : List Refusal) → 0 < number → first (test gives number ∷ rest) ≡ 0 → (test ≡ false) × (first rest ≡ 0)
+pub first_passed : (test : Bool) (number : ℕ) (rest : List Refusal) → 0 < number → first (test gives number ∷ rest) ≡ 0 → (test ≡ false) × (first rest ≡ 0)
 unfolding first
-first-passed true number rest h e = absurd (omega arith)
-first-passed false number rest h e = (refl, e)
+first_passed true number rest h e = absurd (omega arith)
+first_passed false number rest h e = (refl, e)
 
 -- what the first part does not refuse is left to the second
 pub first_append : (a b : List Refusal) → Positive a → first a ≡ 0 → first (a ++ b) ≡ first b
@@ -70,8 +70,8 @@ each_number f [] = true
 each_number f (test gives number ∷ rest) = f number && each_number f rest
 
 -- then it holds of the list's number, if that is not 0
-pub first-each : (f : ℕ → Bool) (l : List Refusal) → each_number f l ≡ true → (first l ≡ 0 → ⊥) → f (first l) ≡ true
+pub first_each : (f : ℕ → Bool) (l : List Refusal) → each_number f l ≡ true → (first l ≡ 0 → ⊥) → f (first l) ≡ true
 unfolding first
-first-each f [] e h = absurd (h refl)
-first-each f (true gives number ∷ rest) e h = ((and-eq-true_iff (f number) (each_number f rest)).0 e).0
-first-each f (false gives number ∷ rest) e h = first-each f rest ((and-eq-true_iff (f number) (each_number f rest)).0 e).1 h
+first_each f [] e h = absurd (h refl)
+first_each f (true gives number ∷ rest) e h = ((and-eq-true_iff (f number) (each_number f rest)).0 e).0
+first_each f (false gives number ∷ rest) e h = first_each f rest ((and-eq-true_iff (f number) (each_number f rest)).0 e).1 h

@@ -69,7 +69,7 @@ bad_result = 10
 abbrev pub bad_rows : ℕ
 bad_rows = 11
 
--- "12, a sleeper byte above 1 or a list not of n bytes" (§10.1)
+-- 12, which no call answers yet: "a sleeper byte above 1 or a list not of n bytes"
 abbrev pub bad_sleepers : ℕ
 bad_sleepers = 12
 

@@ -1,5 +1,6 @@
 // Document 01's numbers and sizes, as the code names them. specs/Numbers.antt has the same for the
 // contracts. No functions.
+#![tactic(auto)]
 
 // Sizes.
 pub const MAX_VERTICES: usize = 4096;

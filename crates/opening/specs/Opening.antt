@@ -16,10 +16,10 @@ use Rattle.model.specs.Histogram.{recount}
 -- workers, left exactly at its need
 pub record Sized (P : ℕ) (distances parents histogram left right values : List ℕ) : Type 0 where
   pub few-vertices : length distances ≤ max_vertices
-  pub some-worker : 1 ≤ P
-  pub few-workers : P ≤ max_workers
-  pub parents-all : length parents ≡ length distances
-  pub histogram-all : length histogram ≡ length distances
+  pub some_worker : 1 ≤ P
+  pub few_workers : P ≤ max_workers
+  pub parents_all : length parents ≡ length distances
+  pub histogram_all : length histogram ≡ length distances
   pub nodes : length left ≡ node_places (length distances) P
   pub wide : length left ≤ length right
   pub numbered : length left ≤ length values

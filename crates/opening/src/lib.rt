@@ -1,5 +1,7 @@
 // The opening of a search: the labels of the source alone, their counts, a new pool of nodes, and the
 // source in a bag. `open` is an inner step: it requires lists that are as long as their needs.
+#![tactic(auto)]
+
 ghost use Rattle.std.specs.Prelude.{◌≡◌, ◌<◌, length, set, replicate};
 ghost use Rattle.numbers.specs.Numbers.{unset};
 ghost use Rattle.opening.specs.Opening.{Sized, FirstLayer};

@@ -9,9 +9,9 @@ use lib.ListN.{length, take}
 use borrow.Author.Tests.{lt-ltb, le-ltb, ne_eqb, eq-eqb}
 use Rattle.numbers.specs.Numbers.{success, short_list}
 use Rattle.numbers.specs.Refusals.{Refusal, ◌gives◌, first}
-use Rattle.numbers.proofs.First.{Positive, first-stop, first_skip, first_append, first_append_stop, first_split}
+use Rattle.numbers.proofs.First.{Positive, first_stop, first_skip, first_append, first_append_stop, first_split}
 use Rattle.lists.specs.Lists.{overlay}
-use Rattle.lists.proofs.Overlay.{overlay-front}
+use Rattle.lists.proofs.Overlay.{overlay_front}
 use Rattle.graph.specs.File.{vertex_count}
 use Rattle.verify.specs.Check.{CheckLent, CheckOutcome, check_refusals, check_number, outcome_of_check}
 use Rattle.verify.specs.Promise.{check_exit}
@@ -21,8 +21,8 @@ use Rattle.page.specs.Layout.{page_text, page_need}
 use Rattle.page.specs.Columns.{read_pages}
 use Rattle.page.specs.Page.{page_short, page_refusals, page_answer, PageOutcome, outcome_of_page}
 use Rattle.page.specs.Promise.{page_exit, OnPaper}
-use Rattle.verify.proofs.Judging.{checks-positive}
-use Rattle.page.proofs.ReadBack.{accepted, accepted-length, accepted-read}
+use Rattle.verify.proofs.Judging.{checks_positive}
+use Rattle.page.proofs.ReadBack.{accepted, accepted_length, accepted_read}
 
 module _ (file : List ℕ) (source : ℕ) (distances parents : List ℕ) (lent : CheckLent) where
   -- the checker's tests
@@ -31,16 +31,16 @@ module _ (file : List ℕ) (source : ℕ) (distances parents : List ℕ) (lent :
 
   -- they have positive numbers
   positive : Positive checks
-  positive = checks-positive file source distances parents lent
+  positive = checks_positive file source distances parents lent
 
   -- the checker's number
   abbrev checked : ℕ
   checked = check_number file source distances parents lent
 
   -- it is that of its tests
-  checked-first : checked ≡ first checks
+  checked_first : checked ≡ first checks
   unfolding check_number
-  checked-first = refl
+  checked_first = refl
 
   -- The call's number, by the page list's length.
   module _ (room : ℕ) where
@@ -53,33 +53,33 @@ module _ (file : List ℕ) (source : ℕ) (distances parents : List ℕ) (lent :
     last = page_short file room gives short_list ∷ []
 
     -- the checker's tests come first
-    number-parts : number ≡ first (checks ++ last)
+    number_parts : number ≡ first (checks ++ last)
     unfolding page_answer page_refusals
-    number-parts = refl
+    number_parts = refl
 
     -- with 0 the checker's number is 0
     pub number_passed : number ≡ success → checked ≡ success
-    number_passed z = checked-first ∙ (first_split checks last positive (sym number-parts ∙ z)).0
+    number_passed z = checked_first ∙ (first_split checks last positive (sym number_parts ∙ z)).0
 
     -- a refusal of the checker's is the call's
-    pub number-stopped : (checked ≡ success → ⊥) → number ≡ checked
-    number-stopped h =
-        let found : first checks ≡ 0 → ⊥ = λ z. h (checked-first ∙ z) in
-        number-parts ∙ first_append_stop checks last (omega arith) ∙ sym checked-first
+    pub number_stopped : (checked ≡ success → ⊥) → number ≡ checked
+    number_stopped h =
+        let found : first checks ≡ 0 → ⊥ = λ z. h (checked_first ∙ z) in
+        number_parts ∙ first_append_stop checks last (omega arith) ∙ sym checked_first
 
     -- past the checker the number is that of the page list
-    number-last : checked ≡ success → number ≡ first last
-    number-last z = number-parts ∙ first_append checks last positive (sym checked-first ∙ z)
+    number_last : checked ≡ success → number ≡ first last
+    number_last z = number_parts ∙ first_append checks last positive (sym checked_first ∙ z)
 
     -- 20
     pub number_short : checked ≡ success → room < page_need (vertex_count file) → number ≡ short_list
     unfolding page_short
-    number_short z h = number-last z ∙ first-stop (page_short file room) short_list [] (lt-ltb room (page_need (vertex_count file)) h)
+    number_short z h = number_last z ∙ first_stop (page_short file room) short_list [] (lt-ltb room (page_need (vertex_count file)) h)
 
     -- or 0
-    pub number-long : checked ≡ success → page_need (vertex_count file) ≤ room → number ≡ success
+    pub number_long : checked ≡ success → page_need (vertex_count file) ≤ room → number ≡ success
     unfolding page_short first
-    number-long z h = number-last z ∙ first_skip (page_short file room) short_list [] (le-ltb room (page_need (vertex_count file)) h)
+    number_long z h = number_last z ∙ first_skip (page_short file room) short_list [] (le-ltb room (page_need (vertex_count file)) h)
 
   module _ (bytes : List ℕ) where
     -- an outcome by its number and its lists
@@ -105,7 +105,7 @@ module _ (file : List ℕ) (source : ℕ) (distances parents : List ℕ) (lent :
 
       -- a refusal of the checker's
       pub page_refused : (r ≡ success → ⊥) → page_exit r after bytes ≡ outcome_of_page file source distances parents lent bytes
-      page_refused h = outcome_by (number-stopped (length bytes) (λ z. h (same_number ∙ z)) ∙ sym same_number) same_lists (rw (ne_eqb r success h))
+      page_refused h = outcome_by (number_stopped (length bytes) (λ z. h (same_number ∙ z)) ∙ sym same_number) same_lists (rw (ne_eqb r success h))
 
       module _ (passed : r ≡ success) {n : ℕ} (counted : n ≡ vertex_count file) where
         -- a page list that is too short
@@ -116,7 +116,7 @@ module _ (file : List ℕ) (source : ℕ) (distances parents : List ℕ) (lent :
         pub page_printed : {written : List ℕ} {at : ℕ} → page_need n ≤ length bytes → Prints (page_text n distances parents) bytes 0 written at
             → page_exit success after written ≡ outcome_of_page file source distances parents lent bytes
         page_printed h p =
-            outcome_by (number-long (length bytes) (sym same_number ∙ passed) (omega arith)) same_lists
+            outcome_by (number_long (length bytes) (sym same_number ∙ passed) (omega arith)) same_lists
             ((p bytes [] (prints_start bytes)).laid ∙ ap (λ (k : ℕ). overlay (page_text k distances parents) bytes) counted)
 
     -- What is promised besides.
@@ -124,7 +124,7 @@ module _ (file : List ℕ) (source : ℕ) (distances parents : List ℕ) (lent :
     -- the pages at the front of the page list
     front : checked ≡ success → take (page_need (vertex_count file)) (overlay (page_text (vertex_count file) distances parents) bytes)
         ≡ page_text (vertex_count file) distances parents
-    front z = overlay-front (page_text (vertex_count file) distances parents) bytes (page_need (vertex_count file)) (accepted-length file source distances parents lent z)
+    front z = overlay_front (page_text (vertex_count file) distances parents) bytes (page_need (vertex_count file)) (accepted_length file source distances parents lent z)
 
     -- follows from the outcome
     pub page_on_paper : {r : ℕ} {after : CheckLent} {written : List ℕ} → page_exit r after written ≡ outcome_of_page file source distances parents lent bytes
@@ -141,5 +141,5 @@ module _ (file : List ℕ) (source : ℕ) (distances parents : List ℕ) (lent :
               let passed = number_passed (length bytes) zeroth in
               ap (λ (l : List ℕ). read_pages (take (page_need (vertex_count file)) l)) (laid ∙ rw (eq-eqb (number (length bytes)) success zeroth))
               ∙ ap read_pages (front passed)
-              ∙ accepted-read file source distances parents lent passed;
+              ∙ accepted_read file source distances parents lent passed;
         }

@@ -13,8 +13,8 @@ use Rattle.lists.specs.Lists.{elem}
 use Rattle.lists.proofs.Or.{none_or}
 use Rattle.lists.proofs.Tests.{elem_append}
 use Rattle.text.specs.Text.{space, line_feed, dash, digit, decimal_in, decimal, label_text, right_aligned}
-use Rattle.text.proofs.DecimalFacts.{tenth_below, decimal-short}
-use Rattle.text.proofs.TextFacts.{label-short, label-unset, label-set, length_aligned}
+use Rattle.text.proofs.DecimalFacts.{tenth_below, decimal_short}
+use Rattle.text.proofs.TextFacts.{label_short, label_unset, label_set, length_aligned}
 use Rattle.page.specs.Layout.{line_bytes, title, head_line, vertex_line}
 use Rattle.page.specs.Columns.{digits_from, number_read, label_read, columns}
 
@@ -40,10 +40,10 @@ digits_one front d =
     rw (ne_eqb (digit d) space (λ (q : digit d ≡ space). omega arith)) (ap (λ (x : ℕ). 10 * front + x) same)
 
 -- a number is read as it is written
-decimal-read : (k x : ℕ) → x < 10 ^ k → digits_from 0 (decimal_in k x) ≡ x
+decimal_read : (k x : ℕ) → x < 10 ^ k → digits_from 0 (decimal_in k x) ≡ x
 unfolding decimal_in digits_from
-decimal-read zero x h = omega arith
-decimal-read (suc k) x h = go (ltb x 10) (decimal-read k (x / 10) (tenth_below k x h))
+decimal_read zero x h = omega arith
+decimal_read (suc k) x h = go (ltb x 10) (decimal_read k (x / 10) (tenth_below k x h))
   where
     go : (b : Bool) → digits_from 0 (decimal_in k (x / 10)) ≡ x / 10
         → digits_from 0 (cond b (digit x ∷ []) (decimal_in k (x / 10) ++ (digit (x % 10) ∷ []))) ≡ x
@@ -57,13 +57,13 @@ decimal-read (suc k) x h = go (ltb x 10) (decimal-read k (x / 10) (tenth_below k
 -- so is one in a column
 pub number_read_lem : (width x : ℕ) → x < 10 ^ 20 → number_read (right_aligned width (decimal x)) ≡ x
 unfolding number_read right_aligned decimal
-number_read_lem width x h = digits_blank 0 (width - length (decimal x)) (decimal x) ∙ decimal-read 20 x h
+number_read_lem width x h = digits_blank 0 (width - length (decimal x)) (decimal x) ∙ decimal_read 20 x h
 
 -- no blank is a dash
-blanks-set : (count : ℕ) (text : List ℕ) → elem dash (replicate count space ++ text) ≡ elem dash text
+blanks_set : (count : ℕ) (text : List ℕ) → elem dash (replicate count space ++ text) ≡ elem dash text
 unfolding elem
-blanks-set zero text = refl
-blanks-set (suc count) text = blanks-set count text
+blanks_set zero text = refl
+blanks_set (suc count) text = blanks_set count text
 
 -- no digit is
 digit_set : (d : ℕ) → elem dash (digit d ∷ []) ≡ false
@@ -71,10 +71,10 @@ unfolding elem
 digit_set d = rw (ne_eqb dash (digit d) (λ (q : dash ≡ digit d). omega arith))
 
 -- so a number has none
-decimal-set : (k x : ℕ) → elem dash (decimal_in k x) ≡ false
+decimal_set : (k x : ℕ) → elem dash (decimal_in k x) ≡ false
 unfolding decimal_in elem
-decimal-set zero x = refl
-decimal-set (suc k) x = go (ltb x 10) (decimal-set k (x / 10))
+decimal_set zero x = refl
+decimal_set (suc k) x = go (ltb x 10) (decimal_set k (x / 10))
   where
     go : (b : Bool) → elem dash (decimal_in k (x / 10)) ≡ false
         → elem dash (cond b (digit x ∷ []) (decimal_in k (x / 10) ++ (digit (x % 10) ∷ []))) ≡ false
@@ -82,27 +82,27 @@ decimal-set (suc k) x = go (ltb x 10) (decimal-set k (x / 10))
     go false front = elem_append dash (decimal_in k (x / 10)) (digit (x % 10) ∷ []) ∙ none_or _ _ front (digit_set (x % 10))
 
 -- a dash in a column is unset
-unset-read : (width : ℕ) → label_read (right_aligned width (dash ∷ [])) ≡ unset
+unset_read : (width : ℕ) → label_read (right_aligned width (dash ∷ [])) ≡ unset
 unfolding label_read right_aligned elem
-unset-read width = rw (blanks-set (width - 1) (dash ∷ []))
+unset_read width = rw (blanks_set (width - 1) (dash ∷ []))
 
 -- a number in a column has none
-number-set : (width x : ℕ) → elem dash (right_aligned width (decimal x)) ≡ false
+number_set : (width x : ℕ) → elem dash (right_aligned width (decimal x)) ≡ false
 unfolding right_aligned decimal
-number-set width x = blanks-set (width - length (decimal x)) (decimal x) ∙ decimal-set 20 x
+number_set width x = blanks_set (width - length (decimal x)) (decimal x) ∙ decimal_set 20 x
 
 -- and is itself
-set-read : (width x : ℕ) → x < 10 ^ 20 → label_read (right_aligned width (decimal x)) ≡ x
+set_read : (width x : ℕ) → x < 10 ^ 20 → label_read (right_aligned width (decimal x)) ≡ x
 unfolding label_read
-set-read width x h = rw (number-set width x) (number_read_lem width x h)
+set_read width x h = rw (number_set width x) (number_read_lem width x h)
 
 -- a label is read as it is written
 pub label-read : (width word : ℕ) → word < 10 ^ 20 → label_read (right_aligned width (label_text word)) ≡ word
 label-read width word h = go (eqb word unset) refl
   where
     go : (b : Bool) → eqb word unset ≡ b → label_read (right_aligned width (label_text word)) ≡ word
-    go true e = let same = eqb-true word unset e in rw (label-unset word same) (unset-read width ∙ sym same)
-    go false e = rw (label-set word (eqb-false word unset e)) (set-read width word h)
+    go true e = let same = eqb-true word unset e in rw (label_unset word same) (unset_read width ∙ sym same)
+    go false e = rw (label_set word (eqb-false word unset e)) (set_read width word h)
 
 -- Lines.
 
@@ -112,40 +112,40 @@ four = refl
 
 -- a vertex, or a page's number, has at most four digits
 pub few_digits : (x : ℕ) → x ≤ max_vertices → length (decimal x) ≤ 4
-few_digits x h = decimal-short 4 x (omega (arith, four)) (omega arith)
+few_digits x h = decimal_short 4 x (omega (arith, four)) (omega arith)
 
 -- so four columns are enough
-number-column : (width x : ℕ) → 4 ≤ width → x ≤ max_vertices → length (right_aligned width (decimal x)) ≡ width
-number-column width x w h = omega (arith, length_aligned width (decimal x), few_digits x h)
+number_column : (width x : ℕ) → 4 ≤ width → x ≤ max_vertices → length (right_aligned width (decimal x)) ≡ width
+number_column width x w h = omega (arith, length_aligned width (decimal x), few_digits x h)
 
 -- for a label five are
-label-column : (width word : ℕ) → 5 ≤ width → word < 65536 → length (right_aligned width (label_text word)) ≡ width
-label-column width word w h = omega (arith, length_aligned width (label_text word), label-short word h)
+label_column : (width word : ℕ) → 5 ≤ width → word < 65536 → length (right_aligned width (label_text word)) ≡ width
+label_column width word w h = omega (arith, length_aligned width (label_text word), label_short word h)
 
 -- a page's line one has 21 bytes
-pub length-head : (number : ℕ) → number ≤ max_vertices → length (head_line number) ≡ line_bytes
+pub length_head : (number : ℕ) → number ≤ max_vertices → length (head_line number) ≡ line_bytes
 unfolding head_line
-length-head number h =
+length_head number h =
     let column : List ℕ = right_aligned 10 (decimal number) in
-    omega (arith, length-append (title ++ column) (line_feed ∷ []), length-append title column, number-column 10 number (omega arith) h)
+    omega (arith, length-append (title ++ column) (line_feed ∷ []), length-append title column, number_column 10 number (omega arith) h)
 
 -- it is printed in these pieces
-pub head-line-columns : (number : ℕ) → title ++ (right_aligned 10 (decimal number) ++ (line_feed ∷ [])) ≡ head_line number
+pub head_line_columns : (number : ℕ) → title ++ (right_aligned 10 (decimal number) ++ (line_feed ∷ [])) ≡ head_line number
 unfolding head_line
-head-line-columns number = sym (append_assoc title (right_aligned 10 (decimal number)) (line_feed ∷ []))
+head_line_columns number = sym (append_assoc title (right_aligned 10 (decimal number)) (line_feed ∷ []))
 
 -- and a vertex's line in these
-pub vertex-line-columns : (v distance parent : ℕ)
+pub vertex_line_columns : (v distance parent : ℕ)
     → (right_aligned 5 (decimal v) ++ (space ∷ [])) ++ (right_aligned 7 (label_text distance) ++ (space ∷ []))
     ++ (right_aligned 6 (label_text parent) ++ (line_feed ∷ []))
     ≡ vertex_line v distance parent
 unfolding vertex_line
-vertex-line-columns v distance parent = simp append_assoc
+vertex_line_columns v distance parent = simp append_assoc
 
 -- what stands in columns is found by their places
-column-at : (line front text rest : List ℕ) {a width : ℕ} → line ≡ front ++ (text ++ rest) → length front ≡ a → length text ≡ width
+column_at : (line front text rest : List ℕ) {a width : ℕ} → line ≡ front ++ (text ++ rest) → length front ≡ a → length text ≡ width
     → take width (drop a line) ≡ text
-column-at line front text rest {a} {width} e p q =
+column_at line front text rest {a} {width} e p q =
     ap (λ (l : List ℕ). take width (drop a l)) e
     ∙ ap (λ (l : List ℕ). take width l) (drop_at front (text ++ rest) a p)
     ∙ take_at text rest width q
@@ -155,8 +155,8 @@ pub head_read : (number : ℕ) → number ≤ max_vertices → number_read (colu
 unfolding head_line
 head_read number h =
     let column : List ℕ = right_aligned 10 (decimal number) in
-    let size = number-column 10 number (omega arith) h in
-    ap number_read (column-at (head_line number) title column (line_feed ∷ []) (append_assoc title column (line_feed ∷ [])) refl size)
+    let size = number_column 10 number (omega arith) h in
+    ap number_read (column_at (head_line number) title column (line_feed ∷ []) (append_assoc title column (line_feed ∷ [])) refl size)
     ∙ number_read_lem 10 number (omega arith)
 
 -- A vertex's line.
@@ -173,35 +173,35 @@ module _ (v distance parent : ℕ) (near : v < max_vertices) (far : distance < 6
   abbrev parent_column : List ℕ
   parent_column = right_aligned 6 (label_text parent)
 
-  length-first : length vertex_column ≡ 5
-  length-first = number-column 5 v (omega arith) (omega arith)
+  length_first : length vertex_column ≡ 5
+  length_first = number_column 5 v (omega arith) (omega arith)
 
-  length-second : length distance_column ≡ 7
-  length-second = label-column 7 distance (omega arith) far
+  length_second : length distance_column ≡ 7
+  length_second = label_column 7 distance (omega arith) far
 
-  length-third : length parent_column ≡ 6
-  length-third = label-column 6 parent (omega arith) up
+  length_third : length parent_column ≡ 6
+  length_third = label_column 6 parent (omega arith) up
 
   -- it has 21 bytes
-  pub length-vertex : length (vertex_line v distance parent) ≡ line_bytes
+  pub length_vertex : length (vertex_line v distance parent) ≡ line_bytes
   unfolding vertex_line
-  length-vertex =
+  length_vertex =
       omega (
         arith,
         length-append (vertex_column ++ (space ∷ distance_column) ++ (space ∷ parent_column)) (line_feed ∷ []),
         length-append (vertex_column ++ (space ∷ distance_column)) (space ∷ parent_column),
         length-append vertex_column (space ∷ distance_column),
-        length-first,
-        length-second,
-        length-third,
+        length_first,
+        length_second,
+        length_third,
       )
 
   -- the vertex is read
-  pub vertex-read : number_read (columns 1 5 (vertex_line v distance parent)) ≡ v
+  pub vertex_read : number_read (columns 1 5 (vertex_line v distance parent)) ≡ v
   unfolding vertex_line
-  vertex-read =
+  vertex_read =
       let rest : List ℕ = (space ∷ distance_column) ++ (space ∷ parent_column) ++ (line_feed ∷ []) in
-      ap number_read (column-at (vertex_line v distance parent) [] vertex_column rest (simp append_assoc) refl length-first) ∙ number_read_lem 5 v (omega arith)
+      ap number_read (column_at (vertex_line v distance parent) [] vertex_column rest (simp append_assoc) refl length_first) ∙ number_read_lem 5 v (omega arith)
 
   -- its distance is
   pub distance_read : label_read (columns 7 13 (vertex_line v distance parent)) ≡ distance
@@ -209,14 +209,14 @@ module _ (v distance parent : ℕ) (near : v < max_vertices) (far : distance < 6
   distance_read =
       let front : List ℕ = vertex_column ++ (space ∷ []) in
       let rest : List ℕ = (space ∷ parent_column) ++ (line_feed ∷ []) in
-      let size : length front ≡ 6 = omega (arith, length-append vertex_column (space ∷ []), length-first) in
-      ap label_read (column-at (vertex_line v distance parent) front distance_column rest (simp append_assoc) size length-second) ∙ label-read 7 distance (omega arith)
+      let size : length front ≡ 6 = omega (arith, length-append vertex_column (space ∷ []), length_first) in
+      ap label_read (column_at (vertex_line v distance parent) front distance_column rest (simp append_assoc) size length_second) ∙ label-read 7 distance (omega arith)
 
   -- and its parent
-  pub parent-read : label_read (columns 15 20 (vertex_line v distance parent)) ≡ parent
+  pub parent_read : label_read (columns 15 20 (vertex_line v distance parent)) ≡ parent
   unfolding vertex_line
-  parent-read =
+  parent_read =
       let front : List ℕ = vertex_column ++ (space ∷ distance_column) ++ (space ∷ []) in
       let size : length front ≡ 14 =
-      omega (arith, length-append (vertex_column ++ (space ∷ distance_column)) (space ∷ []), length-append vertex_column (space ∷ distance_column), length-first, length-second) in
-      ap label_read (column-at (vertex_line v distance parent) front parent_column (line_feed ∷ []) (simp append_assoc) size length-third) ∙ label-read 6 parent (omega arith)
+      omega (arith, length-append (vertex_column ++ (space ∷ distance_column)) (space ∷ []), length-append vertex_column (space ∷ distance_column), length_first, length_second) in
+      ap label_read (column_at (vertex_line v distance parent) front parent_column (line_feed ∷ []) (simp append_assoc) size length_third) ∙ label-read 6 parent (omega arith)

@@ -27,7 +27,8 @@ pub fn page(
     ensures on_paper { OnPaper file.now source distances.now parents.now result bytes.new }
 {
     let checked = check(file, source, distances, parents, offsets, targets, marks);
-    if checked != numbers::SUCCESS {
+    let refused = checked != numbers::SUCCESS;
+    if refused {
         return checked;
     }
     let n = word(file, 0);

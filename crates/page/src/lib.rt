@@ -1,5 +1,7 @@
 // A page for the folder: the distances and parents of a finished result, laid out in lines for paper.
 // `page` is the outside call; it assumes nothing.
+#![tactic(auto)]
+
 mod call;
 mod layout;
 

@@ -8,30 +8,30 @@ use lib.ListN.{length, take, drop, length-drop}
 use borrow.Author.Tests.{ltb-false, lt-ltb, le-ltb}
 use Rattle.numbers.specs.Numbers.{max_vertices, success, bad_length, short_list}
 use Rattle.numbers.specs.Refusals.{◌gives◌, first}
-use Rattle.numbers.proofs.First.{first-passed}
+use Rattle.numbers.proofs.First.{first_passed}
 use Rattle.lists.specs.Lists.{overlay}
-use Rattle.lists.proofs.Overlay.{overlay-front}
+use Rattle.lists.proofs.Overlay.{overlay_front}
 use Rattle.graph.specs.File.{word, words_at}
-use Rattle.graph.proofs.WordRuns.{length-words}
+use Rattle.graph.proofs.WordRuns.{length_words}
 use Rattle.page_report.specs.Input.{count_in, distances_in, parents_in, file_in, own_refusals}
 
 module _ (input : List ℕ) where
   -- 1: fewer than two words
-  pub own-words : length input < 4 → bad_length ≡ first (own_refusals input)
+  pub own_words : length input < 4 → bad_length ≡ first (own_refusals input)
   unfolding own_refusals first
-  own-words h = rw (lt-ltb (length input) 4 h)
+  own_words h = rw (lt-ltb (length input) 4 h)
 
   module _ (four : 4 ≤ length input) {count : ℕ} (told : count ≡ word input 1) where
     -- 20: more distances than the lists have places
-    pub own-count : max_vertices < count → short_list ≡ first (own_refusals input)
+    pub own_count : max_vertices < count → short_list ≡ first (own_refusals input)
     unfolding own_refusals first count_in
-    own-count h = rw (le-ltb (length input) 4 four, ← told, lt-ltb max_vertices count h)
+    own_count h = rw (le-ltb (length input) 4 four, ← told, lt-ltb max_vertices count h)
 
     module _ (few : count ≤ max_vertices) where
       -- 1: fewer than 4 bytes of file
-      pub own-file : length input < 8 + 4 * count → bad_length ≡ first (own_refusals input)
+      pub own_file : length input < 8 + 4 * count → bad_length ≡ first (own_refusals input)
       unfolding own_refusals first count_in file_in
-      own-file h =
+      own_file h =
           let short : length (drop (4 + 4 * count) input) < 4 = omega (arith, length-drop (4 + 4 * count) input) in
           rw (le-ltb (length input) 4 four, ← told, le-ltb max_vertices count few, lt-ltb (length (drop (4 + 4 * count) input)) 4 short)
 
@@ -49,15 +49,15 @@ module _ (input : List ℕ) where
     pub four : 4 ≤ length (file_in input)
 
   -- one that is not refused does
-  pub own-passed : first (own_refusals input) ≡ 0 → OwnPassed
+  pub own_passed : first (own_refusals input) ≡ 0 → OwnPassed
   unfolding own_refusals file_in
-  own-passed e =
+  own_passed e =
       let file = file_in input in
       let short = ltb (length file) 4 gives bad_length in
       let many = ltb max_vertices (count_in input) gives short_list in
-      let p = first-passed (ltb (length input) 4) bad_length (many ∷ short ∷ []) (omega arith) e in
-      let q = first-passed (ltb max_vertices (count_in input)) short_list (short ∷ []) (omega arith) p.1 in
-      let r = first-passed (ltb (length file) 4) bad_length [] (omega arith) q.1 in
+      let p = first_passed (ltb (length input) 4) bad_length (many ∷ short ∷ []) (omega arith) e in
+      let q = first_passed (ltb max_vertices (count_in input)) short_list (short ∷ []) (omega arith) p.1 in
+      let r = first_passed (ltb (length file) 4) bad_length [] (omega arith) q.1 in
       let long = ltb-false (length file) 4 r.0 in
       record {
         few = ltb-false max_vertices (count_in input) q.0;
@@ -66,9 +66,9 @@ module _ (input : List ℕ) where
       }
 
 -- words laid over the front of a list are its first places
-pub words-front : (input : List ℕ) (place count : ℕ) (old : List ℕ) {list : List ℕ} → list ≡ overlay (words_at input place 1 count) old
+pub words_front : (input : List ℕ) (place count : ℕ) (old : List ℕ) {list : List ℕ} → list ≡ overlay (words_at input place 1 count) old
     → take count list ≡ words_at input place 1 count
-words-front input place count old e = ap (take count) e ∙ overlay-front (words_at input place 1 count) old count (length-words input place 1 count)
+words_front input place count old e = ap (take count) e ∙ overlay_front (words_at input place 1 count) old count (length_words input place 1 count)
 
 -- The input's parts, as the program takes them.
 module _ (input : List ℕ) {count : ℕ} (told : count ≡ word input 1) where

@@ -21,8 +21,8 @@ use Rattle.text.proofs.PrintFacts.{prints_start}
 use Rattle.page.specs.Layout.{page_text, page_need}
 use Rattle.page.specs.Page.{page_answer, page_refusals, PageOutcome, outcome_of_page}
 use Rattle.page.specs.Promise.{page_exit}
-use Rattle.page.proofs.CallFacts.{number_passed, number-stopped, number-long}
-use Rattle.page.proofs.ReadBack.{accepted-few, accepted-length}
+use Rattle.page.proofs.CallFacts.{number_passed, number_stopped, number_long}
+use Rattle.page.proofs.ReadBack.{accepted_few, accepted_length}
 use Rattle.page_report.specs.Input.{source_in, distances_in, parents_in, file_in, own_refusals, program_lists}
 use Rattle.page_report.specs.Respond.{output_places, respond_refusals, number_line, response, outcome_of_respond}
 
@@ -32,19 +32,19 @@ module _ (file : List ℕ) (source : ℕ) (distances parents : List ℕ) (lent :
   pages_fit : check_number file source distances parents lent ≡ success
       → (page_need (vertex_count file) ≤ output_places) × (length (page_text (vertex_count file) distances parents) ≡ page_need (vertex_count file))
   pages_fit z =
-      let few = accepted-few file source distances parents lent z in
-      (omega (arith, few), accepted-length file source distances parents lent z)
+      let few = accepted_few file source distances parents lent z in
+      (omega (arith, few), accepted_length file source distances parents lent z)
 
   -- so more room changes nothing
-  same-room : (room : ℕ) → output_places ≤ room
+  same_room : (room : ℕ) → output_places ≤ room
       → page_answer file source distances parents lent room ≡ page_answer file source distances parents lent output_places
-  same-room room h = elim (ℕ_discrete (check_number file source distances parents lent) success) [
+  same_room room h = elim (ℕ_discrete (check_number file source distances parents lent) success) [
     | yes z ↦
-        number-long file source distances parents lent room z (omega (arith, pages_fit z))
-        ∙ sym (number-long file source distances parents lent output_places z (omega (arith, pages_fit z)))
+        number_long file source distances parents lent room z (omega (arith, pages_fit z))
+        ∙ sym (number_long file source distances parents lent output_places z (omega (arith, pages_fit z)))
     | no apart ↦
-        number-stopped file source distances parents lent room apart
-        ∙ sym (number-stopped file source distances parents lent output_places apart)
+        number_stopped file source distances parents lent room apart
+        ∙ sym (number_stopped file source distances parents lent output_places apart)
   ]
 
 -- The program's number.
@@ -54,23 +54,23 @@ module _ (input : List ℕ) where
   paged room = page_answer (file_in input) (source_in input) (distances_in input) (parents_in input) program_lists room
 
   -- the program's own tests come first
-  number-parts : first (respond_refusals input)
+  number_parts : first (respond_refusals input)
       ≡ first (own_refusals input ++ page_refusals (file_in input) (source_in input) (distances_in input) (parents_in input) program_lists output_places)
   unfolding respond_refusals
-  number-parts = refl
+  number_parts = refl
 
   -- they have positive numbers
-  own-positive : Positive (own_refusals input)
+  own_positive : Positive (own_refusals input)
   unfolding own_refusals
-  own-positive = omega arith
+  own_positive = omega arith
 
   -- past them the number is that of the pages
-  pub number-later : first (own_refusals input) ≡ success → first (respond_refusals input) ≡ paged output_places
+  pub number_later : first (own_refusals input) ≡ success → first (respond_refusals input) ≡ paged output_places
   unfolding page_answer
-  number-later e =
-      number-parts
+  number_later e =
+      number_parts
       ∙ first_append (own_refusals input)
-      (page_refusals (file_in input) (source_in input) (distances_in input) (parents_in input) program_lists output_places) own-positive e
+      (page_refusals (file_in input) (source_in input) (distances_in input) (parents_in input) program_lists output_places) own_positive e
 
   -- the line of a refusal
   pub refusal_line : {number : ℕ} → first (respond_refusals input) ≡ number → (number ≡ success → ⊥) → response input ≡ number_line number
@@ -81,13 +81,13 @@ module _ (input : List ℕ) where
   pub own_line : {number : ℕ} → number ≡ first (own_refusals input) → (number ≡ success → ⊥) → response input ≡ number_line number
   own_line e h =
       let found : first (own_refusals input) ≡ 0 → ⊥ = λ z. h (e ∙ z) in
-      refusal_line (number-parts ∙ first_append_stop (own_refusals input)
+      refusal_line (number_parts ∙ first_append_stop (own_refusals input)
       (page_refusals (file_in input) (source_in input) (distances_in input) (parents_in input) program_lists output_places) (omega arith) ∙ sym e) h
 
   -- the pages
-  pub pages-shown : first (respond_refusals input) ≡ success → response input ≡ page_text (vertex_count (file_in input)) (distances_in input) (parents_in input)
+  pub pages_shown : first (respond_refusals input) ≡ success → response input ≡ page_text (vertex_count (file_in input)) (distances_in input) (parents_in input)
   unfolding response
-  pages-shown e = rw (eq-eqb (first (respond_refusals input)) success e)
+  pages_shown e = rw (eq-eqb (first (respond_refusals input)) success e)
 
 -- a call for the pages of the input's parts is the program's
 pub paged_as : (input output : List ℕ) {source : ℕ} {file distances parents : List ℕ} {o : PageOutcome} → file ≡ file_in input → source ≡ source_in input
@@ -104,16 +104,16 @@ module _ (input output : List ℕ) (passed : first (own_refusals input) ≡ succ
   unfolding outcome_of_page
   same_number = ap (λ (o : PageOutcome). o.number) told
 
-  shown-number : first (respond_refusals input) ≡ r
-  shown-number =
-      number-later input passed
-      ∙ sym (same-room (file_in input) (source_in input) (distances_in input) (parents_in input) program_lists (length output) room)
+  shown_number : first (respond_refusals input) ≡ r
+  shown_number =
+      number_later input passed
+      ∙ sym (same_room (file_in input) (source_in input) (distances_in input) (parents_in input) program_lists (length output) room)
       ∙ sym same_number
 
   -- with 0 n is within its size
-  pub vertices-few : r ≡ success → vertex_count (file_in input) ≤ max_vertices
-  vertices-few z =
-      accepted-few (file_in input) (source_in input) (distances_in input) (parents_in input) program_lists
+  pub vertices_few : r ≡ success → vertex_count (file_in input) ≤ max_vertices
+  vertices_few z =
+      accepted_few (file_in input) (source_in input) (distances_in input) (parents_in input) program_lists
       (number_passed (file_in input) (source_in input) (distances_in input) (parents_in input) program_lists (length output) (sym same_number ∙ z))
 
   -- the output that it leaves
@@ -126,7 +126,7 @@ module _ (input output : List ℕ) (passed : first (own_refusals input) ≡ succ
       → Printed output (response input) output'' at
   refused_printed {output''} {at} h p =
       let kept : output' ≡ output = left ∙ rw (ne_eqb r success h) in
-      rw (refusal_line input shown-number h) (p output [] (rw kept (prints_start output)))
+      rw (refusal_line input shown_number h) (p output [] (rw kept (prints_start output)))
 
   -- or the pages
   pub pages_printed : {n at : ℕ} → r ≡ success → n ≡ vertex_count (file_in input) → at ≡ page_need n → Printed output (response input) output' at
@@ -134,7 +134,7 @@ module _ (input output : List ℕ) (passed : first (own_refusals input) ≡ succ
       let text : List ℕ = page_text (vertex_count (file_in input)) (distances_in input) (parents_in input) in
       let checked = number_passed (file_in input) (source_in input) (distances_in input) (parents_in input) program_lists (length output) (sym same_number ∙ z) in
       let fit = pages_fit (file_in input) (source_in input) (distances_in input) (parents_in input) program_lists checked in
-      rw (pages-shown input (shown-number ∙ z)) (record {
+      rw (pages_shown input (shown_number ∙ z)) (record {
         laid = left ∙ rw (eq-eqb r success z);
         used = last ∙ ap page_need count ∙ sym fit.1;
         room = omega (arith, fit);

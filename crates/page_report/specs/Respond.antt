@@ -17,7 +17,8 @@ output_places = page_need max_vertices
 unfoldable pub respond_refusals : List ℕ → List Refusal
 respond_refusals input =
     own_refusals input
-    ++ page_refusals (file_in input) (source_in input) (distances_in input) (parents_in input) program_lists output_places
+    ++ page_refusals (file_in input) (source_in input) (distances_in input) (parents_in input) program_lists
+    output_places
 
 -- a refusal is a line with its number (§12.4; docs/DECISIONS.md, 80)
 unfoldable pub number_line : ℕ → List ℕ

@@ -15,7 +15,8 @@ pub fn own_number(input: &[u8]) -> usize
         return numbers::BAD_LENGTH;
     }
     let count = word(input, 1);
-    if numbers::MAX_VERTICES < count {
+    let large = numbers::MAX_VERTICES < count;
+    if large {
         return numbers::SHORT_LIST;
     }
     if input.len() < 8 + 4 * count {

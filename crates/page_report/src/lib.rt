@@ -1,6 +1,8 @@
 // The page program's whole work as one function from its input bytes to its output bytes: `respond`,
 // and `respond_in`, the same in the program's buffers; outside calls, which assume nothing.
 // Reading and writing are the program's.
+#![tactic(auto)]
+
 mod input;
 mod program;
 

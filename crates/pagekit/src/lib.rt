@@ -3,6 +3,8 @@
 // compared with it.
 //
 // Every read of a list is guarded, so that no function here requires anything.
+#![tactic(auto)]
+
 ghost use Rattle.std.specs.Prelude.{◌<◌};
 
 use testkit::files::is_filled;

@@ -38,20 +38,20 @@ map_pennant_second g (tip a (node b y x)) = refl
 -- The backbone.
 
 -- as many slots
-pub map-length : (g : ℕ → ℕ) (s : Bag) → length (map_bag g s) ≡ length s
+pub map_length : (g : ℕ → ℕ) (s : Bag) → length (map_bag g s) ≡ length s
 unfolding map_bag
-map-length g s = length-map s (map_slot g)
+map_length g s = length-map s (map_slot g)
 
 -- empty slots
-pub map-gaps : (g : ℕ → ℕ) (n : ℕ) → map_bag g (replicate n gap) ≡ replicate n gap
+pub map_gaps : (g : ℕ → ℕ) (n : ℕ) → map_bag g (replicate n gap) ≡ replicate n gap
 unfolding map_bag map_slot
-map-gaps g zero = refl
-map-gaps g (suc n) = rw (map-gaps g n)
+map_gaps g zero = refl
+map_gaps g (suc n) = rw (map_gaps g n)
 
 -- the empty bag
 pub map_empty : (g : ℕ → ℕ) → map_bag g empty_bag ≡ empty_bag
 unfolding empty_bag
-map_empty g = map-gaps g slot_count
+map_empty g = map_gaps g slot_count
 
 -- Insertion.
 
@@ -126,37 +126,37 @@ map_first g [] = refl
 map_first g (y ∷ s) = rw (map_insert_filled g y (map pennant_first s ++ gap ∷ []), map_lower g pennant_first (map_pennant_first g) s)
 
 -- what a split returns
-pub map-second : (g : ℕ → ℕ) (s : Bag) → map_bag g (split_second s) ≡ split_second (map_bag g s)
+pub map_second : (g : ℕ → ℕ) (s : Bag) → map_bag g (split_second s) ≡ split_second (map_bag g s)
 unfolding split_second map_bag
-map-second g [] = refl
-map-second g (y ∷ s) = map_lower g pennant_second (map_pennant_second g) s
+map_second g [] = refl
+map_second g (y ∷ s) = map_lower g pennant_second (map_pennant_second g) s
 
 -- Take.
 
 -- a pennant spread
-pub map-spread : (g : ℕ → ℕ) (k : ℕ) (x : Slot) (s : Bag) → map_bag g (spread k x s) ≡ spread k (map_slot g x) (map_bag g s)
+pub map_spread : (g : ℕ → ℕ) (k : ℕ) (x : Slot) (s : Bag) → map_bag g (spread k x s) ≡ spread k (map_slot g x) (map_bag g s)
 unfolding spread map_bag
-map-spread g zero x s = refl
-map-spread g (suc k) x s = rw (map-spread g k (pennant_first x) (pennant_second x ∷ s), map_pennant_first g x, map_pennant_second g x)
+map_spread g zero x s = refl
+map_spread g (suc k) x s = rw (map_spread g k (pennant_first x) (pennant_second x ∷ s), map_pennant_first g x, map_pennant_second g x)
 
 -- what take leaves, the first k slots being empty
-pub map-take-from : (g : ℕ → ℕ) (k : ℕ) (s : Bag) → map_bag g (take_from k s) ≡ take_from k (map_bag g s)
+pub map_take_from : (g : ℕ → ℕ) (k : ℕ) (s : Bag) → map_bag g (take_from k s) ≡ take_from k (map_bag g s)
 unfolding take_from map_bag map_slot
-map-take-from g k [] = map-gaps g k
-map-take-from g k (gap ∷ s) = map-take-from g (suc k) s
-map-take-from g k (tip a t ∷ s) = map-spread g k (tip a t) (gap ∷ s)
+map_take_from g k [] = map_gaps g k
+map_take_from g k (gap ∷ s) = map_take_from g (suc k) s
+map_take_from g k (tip a t ∷ s) = map_spread g k (tip a t) (gap ∷ s)
 
 -- what take leaves
-pub map-rest : (g : ℕ → ℕ) (s : Bag) → map_bag g (take_rest s) ≡ take_rest (map_bag g s)
+pub map_rest : (g : ℕ → ℕ) (s : Bag) → map_bag g (take_rest s) ≡ take_rest (map_bag g s)
 unfolding take_rest
-map-rest g s = map-take-from g 0 s
+map_rest g s = map_take_from g 0 s
 
 -- the number taken
-pub map-taken : (g : ℕ → ℕ) (s : Bag) → is_empty s ≡ false → taken_number (map_bag g s) ≡ g (taken_number s)
+pub map_taken : (g : ℕ → ℕ) (s : Bag) → is_empty s ≡ false → taken_number (map_bag g s) ≡ g (taken_number s)
 unfolding is_empty taken_number map_bag map_slot
-map-taken g [] e = absurd (true≢false e)
-map-taken g (gap ∷ s) e = map-taken g s e
-map-taken g (tip a t ∷ s) e = refl
+map_taken g [] e = absurd (true≢false e)
+map_taken g (gap ∷ s) e = map_taken g s e
+map_taken g (tip a t ∷ s) e = refl
 
 -- Tests, weights, shapes.
 
@@ -174,22 +174,22 @@ map_at_least_two g [] = refl
 map_at_least_two g (x ∷ s) = ap not (map_is_empty g s)
 
 -- a tree weighed by f of the new numbers
-weigh-map-tree : (f g : ℕ → ℕ) (t : Tree) → weigh_tree f (map_tree g t) ≡ weigh_tree (λ x. f (g x)) t
+weigh_map_tree : (f g : ℕ → ℕ) (t : Tree) → weigh_tree f (map_tree g t) ≡ weigh_tree (λ x. f (g x)) t
 unfolding weigh_tree map_tree
-weigh-map-tree f g null = refl
-weigh-map-tree f g (node a l r) = rw (weigh-map-tree f g l, weigh-map-tree f g r)
+weigh_map_tree f g null = refl
+weigh_map_tree f g (node a l r) = rw (weigh_map_tree f g l, weigh_map_tree f g r)
 
 -- a slot
 pub weigh_map_slot : (f g : ℕ → ℕ) (x : Slot) → weigh_slot f (map_slot g x) ≡ weigh_slot (λ x. f (g x)) x
 unfolding weigh_slot map_slot
 weigh_map_slot f g gap = refl
-weigh_map_slot f g (tip a t) = rw (weigh-map-tree f g t)
+weigh_map_slot f g (tip a t) = rw (weigh_map_tree f g t)
 
 -- a bag
-pub weigh-map : (f g : ℕ → ℕ) (s : Bag) → weigh f (map_bag g s) ≡ weigh (λ x. f (g x)) s
+pub weigh_map : (f g : ℕ → ℕ) (s : Bag) → weigh f (map_bag g s) ≡ weigh (λ x. f (g x)) s
 unfolding weigh map_bag sum_of
-weigh-map f g [] = refl
-weigh-map f g (x ∷ s) = rw (weigh_map_slot f g x, weigh-map f g s)
+weigh_map f g [] = refl
+weigh_map f g (x ∷ s) = rw (weigh_map_slot f g x, weigh_map f g s)
 
 -- the shape of a tree
 complete_map : (g : ℕ → ℕ) (k : ℕ) (t : Tree) → Complete k t → Complete k (map_tree g t)
@@ -206,29 +206,29 @@ pennant_map g k gap p = tt
 pennant_map g k (tip a t) p = complete_map g k t p
 
 -- of the slots from k on
-shaped-map-from : (g : ℕ → ℕ) (k : ℕ) (s : Bag) → ShapedFrom k s → ShapedFrom k (map_bag g s)
+shaped_map_from : (g : ℕ → ℕ) (k : ℕ) (s : Bag) → ShapedFrom k s → ShapedFrom k (map_bag g s)
 unfolding map_bag
-shaped-map-from g k [] h = tt
-shaped-map-from g k (x ∷ s) h = (pennant_map g k x h.0, shaped-map-from g (suc k) s h.1)
+shaped_map_from g k [] h = tt
+shaped_map_from g k (x ∷ s) h = (pennant_map g k x h.0, shaped_map_from g (suc k) s h.1)
 
 -- of a bag
-pub shaped-map : (g : ℕ → ℕ) (s : Bag) → Shaped s → Shaped (map_bag g s)
-shaped-map g s h = shaped-map-from g 0 s h
+pub shaped_map : (g : ℕ → ℕ) (s : Bag) → Shaped s → Shaped (map_bag g s)
+shaped_map g s h = shaped_map_from g 0 s h
 
 -- Two functions that agree on the numbers held.
 
 -- on a tree
-map-same-tree : (g h : ℕ → ℕ) (t : Tree) → ((i : ℕ) → 1 ≤ weigh_tree (only i) t → g i ≡ h i) → map_tree g t ≡ map_tree h t
+map_same_tree : (g h : ℕ → ℕ) (t : Tree) → ((i : ℕ) → 1 ≤ weigh_tree (only i) t → g i ≡ h i) → map_tree g t ≡ map_tree h t
 unfolding weigh_tree map_tree
-map-same-tree g h null e = refl
-map-same-tree g h (node a l r) e =
-    rw (e a (omega (arith, only_self a)), map-same-tree g h l (λ i k. e i (omega arith)), map-same-tree g h r (λ i k. e i (omega arith)))
+map_same_tree g h null e = refl
+map_same_tree g h (node a l r) e =
+    rw (e a (omega (arith, only_self a)), map_same_tree g h l (λ i k. e i (omega arith)), map_same_tree g h r (λ i k. e i (omega arith)))
 
 -- on a slot
 map_same_slot : (g h : ℕ → ℕ) (x : Slot) → ((i : ℕ) → 1 ≤ weigh_slot (only i) x → g i ≡ h i) → map_slot g x ≡ map_slot h x
 unfolding weigh_slot map_slot
 map_same_slot g h gap e = refl
-map_same_slot g h (tip a t) e = rw (e a (omega (arith, only_self a)), map-same-tree g h t (λ i k. e i (omega arith)))
+map_same_slot g h (tip a t) e = rw (e a (omega (arith, only_self a)), map_same_tree g h t (λ i k. e i (omega arith)))
 
 -- on a bag
 pub map_same : (g h : ℕ → ℕ) (s : Bag) → ((i : ℕ) → 1 ≤ copies i s → g i ≡ h i) → map_bag g s ≡ map_bag h s

@@ -45,14 +45,14 @@ second_shape k (tip a (node b y x)) p = p.0
 -- The empty bag.
 
 -- empty slots have the shape
-pub shaped-gaps : (k n : ℕ) → ShapedFrom k (replicate n gap)
-shaped-gaps k zero = tt
-shaped-gaps k (suc n) = (tt, shaped-gaps (suc k) n)
+pub shaped_gaps : (k n : ℕ) → ShapedFrom k (replicate n gap)
+shaped_gaps k zero = tt
+shaped_gaps k (suc n) = (tt, shaped_gaps (suc k) n)
 
 -- the empty bag has the shape
 pub shaped_empty : Shaped empty_bag
 unfolding empty_bag
-shaped_empty = shaped-gaps 0 slot_count
+shaped_empty = shaped_gaps 0 slot_count
 
 -- Insertion.
 
@@ -122,53 +122,53 @@ shaped_lower h lower k [] p = (tt, tt)
 shaped_lower h lower k (x ∷ s) p = (lower k x p.0, shaped_lower h lower (suc k) s p.1)
 
 -- what a split leaves
-pub shaped-first : (s : Bag) → Shaped s → Shaped (split_first s)
+pub shaped_first : (s : Bag) → Shaped s → Shaped (split_first s)
 unfolding split_first
-shaped-first [] h = tt
-shaped-first (y ∷ s) h = shaped_insert_filled 0 y (map pennant_first s ++ gap ∷ []) h.0 (shaped_lower pennant_first first_shape 0 s h.1)
+shaped_first [] h = tt
+shaped_first (y ∷ s) h = shaped_insert_filled 0 y (map pennant_first s ++ gap ∷ []) h.0 (shaped_lower pennant_first first_shape 0 s h.1)
 
 -- what a split returns
-pub shaped-second : (s : Bag) → Shaped s → Shaped (split_second s)
+pub shaped_second : (s : Bag) → Shaped s → Shaped (split_second s)
 unfolding split_second
-shaped-second [] h = tt
-shaped-second (y ∷ s) h = shaped_lower pennant_second second_shape 0 s h.1
+shaped_second [] h = tt
+shaped_second (y ∷ s) h = shaped_lower pennant_second second_shape 0 s h.1
 
 -- Take.
 
 -- a pennant spread over the slots before its own
-pub shaped-spread : (k : ℕ) (x : Slot) (s : Bag) → Pennant k x → ShapedFrom k s → Shaped (spread k x s)
+pub shaped_spread : (k : ℕ) (x : Slot) (s : Bag) → Pennant k x → ShapedFrom k s → Shaped (spread k x s)
 unfolding spread
-shaped-spread zero x s p h = h
-shaped-spread (suc k) x s p h = shaped-spread k (pennant_first x) (pennant_second x ∷ s) (first_shape k x p) (second_shape k x p, h)
+shaped_spread zero x s p h = h
+shaped_spread (suc k) x s p h = shaped_spread k (pennant_first x) (pennant_second x ∷ s) (first_shape k x p) (second_shape k x p, h)
 
 -- what take leaves, the first k slots being empty
-pub shaped-take-from : (k : ℕ) (s : Bag) → ShapedFrom k s → Shaped (take_from k s)
+pub shaped_take_from : (k : ℕ) (s : Bag) → ShapedFrom k s → Shaped (take_from k s)
 unfolding take_from
-shaped-take-from k [] h = shaped-gaps 0 k
-shaped-take-from k (gap ∷ s) h = shaped-take-from (suc k) s h.1
-shaped-take-from k (tip a t ∷ s) h = shaped-spread k (tip a t) (gap ∷ s) h.0 (tt, h.1)
+shaped_take_from k [] h = shaped_gaps 0 k
+shaped_take_from k (gap ∷ s) h = shaped_take_from (suc k) s h.1
+shaped_take_from k (tip a t ∷ s) h = shaped_spread k (tip a t) (gap ∷ s) h.0 (tt, h.1)
 
 -- what take leaves
-pub shaped-rest : (s : Bag) → Shaped s → Shaped (take_rest s)
+pub shaped_rest : (s : Bag) → Shaped s → Shaped (take_rest s)
 unfolding take_rest
-shaped-rest s h = shaped-take-from 0 s h
+shaped_rest s h = shaped_take_from 0 s h
 
 -- a pennant spread, and its root's number, weigh what the pennant weighed
-pub weigh-spread : (f : ℕ → ℕ) (k a : ℕ) (t : Tree) (s : Bag) → Complete k t → f a + weigh f (spread k (tip a t) s) ≡ weigh_slot f (tip a t) + weigh f s
+pub weigh_spread : (f : ℕ → ℕ) (k a : ℕ) (t : Tree) (s : Bag) → Complete k t → f a + weigh f (spread k (tip a t) s) ≡ weigh_slot f (tip a t) + weigh f s
 unfolding spread pennant_first pennant_second weigh weigh_slot weigh_tree sum_of
-weigh-spread f zero a null s c = omega arith
-weigh-spread f zero a (node b l r) s c = absurd c
-weigh-spread f (suc k) a null s c = absurd c
-weigh-spread f (suc k) a (node b l r) s c = omega (arith, weigh-spread f k a r (tip b l ∷ s) c.1)
+weigh_spread f zero a null s c = omega arith
+weigh_spread f zero a (node b l r) s c = absurd c
+weigh_spread f (suc k) a null s c = absurd c
+weigh_spread f (suc k) a (node b l r) s c = omega (arith, weigh_spread f k a r (tip b l ∷ s) c.1)
 
 -- the number taken and what take leaves, the first k slots being empty
-pub weigh-take-from : (f : ℕ → ℕ) (k : ℕ) (s : Bag) → ShapedFrom k s → is_empty s ≡ false → f (taken_number s) + weigh f (take_from k s) ≡ weigh f s
+pub weigh_take_from : (f : ℕ → ℕ) (k : ℕ) (s : Bag) → ShapedFrom k s → is_empty s ≡ false → f (taken_number s) + weigh f (take_from k s) ≡ weigh f s
 unfolding take_from taken_number is_empty weigh weigh_slot sum_of
-weigh-take-from f k [] h e = absurd (true≢false e)
-weigh-take-from f k (gap ∷ s) h e = omega (arith, weigh-take-from f (suc k) s h.1 e)
-weigh-take-from f k (tip a t ∷ s) h e = omega (arith, weigh-spread f k a t (gap ∷ s) h.0)
+weigh_take_from f k [] h e = absurd (true≢false e)
+weigh_take_from f k (gap ∷ s) h e = omega (arith, weigh_take_from f (suc k) s h.1 e)
+weigh_take_from f k (tip a t ∷ s) h e = omega (arith, weigh_spread f k a t (gap ∷ s) h.0)
 
 -- the number taken and what take leaves weigh what the bag weighed
-pub weigh-rest : (f : ℕ → ℕ) (s : Bag) → Shaped s → is_empty s ≡ false → f (taken_number s) + weigh f (take_rest s) ≡ weigh f s
+pub weigh_rest : (f : ℕ → ℕ) (s : Bag) → Shaped s → is_empty s ≡ false → f (taken_number s) + weigh f (take_rest s) ≡ weigh f s
 unfolding take_rest
-weigh-rest f s h e = weigh-take-from f 0 s h e
+weigh_rest f s h e = weigh_take_from f 0 s h e

@@ -14,7 +14,7 @@ use Rattle.pennant.specs.Pennant.{Tree, null, node, Slot, gap, tip, pennant_unio
 use Rattle.pennant.specs.Bag.{Bag, slot_count, empty_bag, insert_pennant, bag_insert, insert_filled, adder_carry, add_from, bag_union, split_first}
 use Rattle.pennant.specs.Bag.{split_second, spread, take_from, take_rest, is_gap, is_empty, at_least_two}
 use Rattle.pennant.specs.Held.{weigh_tree, weigh_slot, weigh, one, size, Complete, Pennant, ShapedFrom, Shaped}
-use Rattle.pennant.proofs.Weights.{weigh_pennant_union, weigh_slot_within, weigh_adder, weigh_halves, weigh-end, weigh_split, empty_weighs, filled-size, sized-filled}
+use Rattle.pennant.proofs.Weights.{weigh_pennant_union, weigh_slot_within, weigh_adder, weigh_halves, weigh_end, weigh_split, empty_weighs, filled_size, sized_filled}
 use Rattle.pennant.proofs.Shapes.{pennant_union_shape, pennant_union_filled, first_shape, adder_carry_shape, shaped_lower}
 
 -- Pennants and slots.
@@ -99,7 +99,7 @@ pub split_sizes : (s : Bag) → Shaped s → (size (split_first s) ≡ size s - 
 unfolding split_second weigh sum_of
 split_sizes [] h = omega (arith, weigh_split one [])
 split_sizes (y ∷ s) h =
-    omega (arith, weigh_split one (y ∷ s), weigh-end one (map pennant_second s), weigh_halves one s, same_halves 0 s h.1, pennant_within 0 y h.0)
+    omega (arith, weigh_split one (y ∷ s), weigh_end one (map pennant_second s), weigh_halves one s, same_halves 0 s h.1, pennant_within 0 y h.0)
 
 -- there are at least two where the size is at least 2
 pub two_size : (s : Bag) → Shaped s → at_least_two s ≡ leb 2 (size s)
@@ -109,26 +109,26 @@ two_size (x ∷ s) h = go (is_empty s) refl
   where
     go : (b : Bool) → is_empty s ≡ b → not b ≡ leb 2 (weigh_slot one x + weigh one s)
     go true e = sym (lt-leb 2 (weigh_slot one x + weigh one s) (omega (arith, empty_weighs one s e, pennant_within 0 x h.0)))
-    go false e = sym (le-leb 2 (weigh_slot one x + weigh one s) (omega (arith, filled-size s e, weigh_halves one s, same_halves 0 s h.1)))
+    go false e = sym (le-leb 2 (weigh_slot one x + weigh one s) (omega (arith, filled_size s e, weigh_halves one s, same_halves 0 s h.1)))
 
 -- where there are at least two, both halves of a split hold a number
 pub split_filled : (s : Bag) → Shaped s → at_least_two s ≡ true → (is_empty (split_first s) ≡ false) × (is_empty (split_second s) ≡ false)
 split_filled s h e =
     let two = leb-true 2 (size s) (sym (two_size s h) ∙ e) in
     let parts = split_sizes s h in
-    (sized-filled (split_first s) (omega arith), sized-filled (split_second s) (omega arith))
+    (sized_filled (split_first s) (omega arith), sized_filled (split_second s) (omega arith))
 
 -- What fits into a backbone.
 
 -- the slots from k on hold at most what their number allows
-size-from : (k : ℕ) (s : Bag) → ShapedFrom k s → weigh one s + 2 ^ k ≤ 2 ^ (k + length s)
+size_from : (k : ℕ) (s : Bag) → ShapedFrom k s → weigh one s + 2 ^ k ≤ 2 ^ (k + length s)
 unfolding weigh sum_of
-size-from k [] h = omega (arith, power_end k)
-size-from k (x ∷ s) h = omega (arith, pennant_within k x h.0, size-from (suc k) s h.1, power_up k (length s))
+size_from k [] h = omega (arith, power_end k)
+size_from k (x ∷ s) h = omega (arith, pennant_within k x h.0, size_from (suc k) s h.1, power_up k (length s))
 
 -- n slots hold fewer than 2^n numbers
-pub size-within : (s : Bag) → Shaped s → size s < 2 ^ length s
-size-within s h = omega (arith, rw (zero-add (length s)) at (size-from 0 s h))
+pub size_within : (s : Bag) → Shaped s → size s < 2 ^ length s
+size_within s h = omega (arith, rw (zero-add (length s)) at (size_from 0 s h))
 
 -- Lengths of backbones.
 
@@ -196,35 +196,35 @@ length_down : (f : Slot → Slot) (s : Bag) → length (map f s ++ gap ∷ []) �
 length_down f s = simp (length-append, length-map) (omega arith)
 
 -- what a split leaves has as many slots
-pub length-first : (s : Bag) → Shaped s → length (split_first s) ≡ length s
+pub length_first : (s : Bag) → Shaped s → length (split_first s) ≡ length s
 unfolding split_first weigh sum_of
-length-first [] h = refl
-length-first (y ∷ s) h =
+length_first [] h = refl
+length_first (y ∷ s) h =
     let rest = map pennant_first s ++ gap ∷ [] in
-    let fits : weigh_slot one y + weigh one rest < 2 ^ suc (length s) = omega (arith, size-within (y ∷ s) h, weigh-end one (map pennant_first s), weigh_halves one s) in
+    let fits : weigh_slot one y + weigh one rest < 2 ^ suc (length s) = omega (arith, size_within (y ∷ s) h, weigh_end one (map pennant_first s), weigh_halves one s) in
     let room : weigh_slot one y + weigh one rest < 2 ^ (0 + length rest) = rw (length_down pennant_first s, zero-add) fits in
     length_insert_filled 0 y rest h.0 (shaped_lower pennant_first first_shape 0 s h.1) room ∙ length_down pennant_first s
 
 -- what a split returns has as many slots
-pub length-second : (s : Bag) → length (split_second s) ≡ length s
+pub length_second : (s : Bag) → length (split_second s) ≡ length s
 unfolding split_second
-length-second [] = refl
-length-second (y ∷ s) = length_down pennant_second s
+length_second [] = refl
+length_second (y ∷ s) = length_down pennant_second s
 
 -- a pennant spread over k slots
-pub length-spread : (k : ℕ) (x : Slot) (s : Bag) → length (spread k x s) ≡ k + length s
+pub length_spread : (k : ℕ) (x : Slot) (s : Bag) → length (spread k x s) ≡ k + length s
 unfolding spread
-length-spread zero x s = omega arith
-length-spread (suc k) x s = omega (arith, length-spread k (pennant_first x) (pennant_second x ∷ s))
+length_spread zero x s = omega arith
+length_spread (suc k) x s = omega (arith, length_spread k (pennant_first x) (pennant_second x ∷ s))
 
 -- what take leaves, k slots being empty before
-pub length-take-from : (k : ℕ) (s : Bag) → length (take_from k s) ≡ k + length s
+pub length_take_from : (k : ℕ) (s : Bag) → length (take_from k s) ≡ k + length s
 unfolding take_from
-length-take-from k [] = omega (arith, length-replicate k gap)
-length-take-from k (gap ∷ s) = omega (arith, length-take-from (suc k) s)
-length-take-from k (tip a t ∷ s) = length-spread k (tip a t) (gap ∷ s)
+length_take_from k [] = omega (arith, length-replicate k gap)
+length_take_from k (gap ∷ s) = omega (arith, length_take_from (suc k) s)
+length_take_from k (tip a t ∷ s) = length_spread k (tip a t) (gap ∷ s)
 
 -- what take leaves has as many slots
 pub length_rest : (s : Bag) → length (take_rest s) ≡ length s
 unfolding take_rest
-length_rest s = omega (arith, length-take-from 0 s)
+length_rest s = omega (arith, length_take_from 0 s)

@@ -10,8 +10,8 @@ use lib.Dec.{eqb}
 use lib.ListN.{get_or, replicate}
 use borrow.Author.Tests.{eqb-false, eq-eqb, ne_eqb}
 use Rattle.lists.specs.Lists.{sum_of}
-use Rattle.lists.proofs.Sums.{sum_append, sum-at}
-use Rattle.lists.proofs.Tests.{test-within}
+use Rattle.lists.proofs.Sums.{sum_append, sum_at}
+use Rattle.lists.proofs.Tests.{test_within}
 use Rattle.pennant.specs.Pennant.{Tree, null, node, Slot, gap, tip, pennant_union, pennant_first, pennant_second}
 use Rattle.pennant.specs.Bag.{Bag, slot_count, empty_bag, insert_pennant, bag_insert, insert_filled, adder_sum, adder_carry, add_from, bag_union}
 use Rattle.pennant.specs.Bag.{split_first, split_second, taken_number, is_empty}
@@ -36,15 +36,15 @@ weigh_pennant_split f (tip a (node b y x)) = omega arith
 -- The empty bag.
 
 -- empty slots weigh nothing
-pub weigh-gaps : (f : ℕ → ℕ) (n : ℕ) → weigh f (replicate n gap) ≡ 0
+pub weigh_gaps : (f : ℕ → ℕ) (n : ℕ) → weigh f (replicate n gap) ≡ 0
 unfolding weigh weigh_slot sum_of
-weigh-gaps f zero = refl
-weigh-gaps f (suc n) = omega (arith, weigh-gaps f n)
+weigh_gaps f zero = refl
+weigh_gaps f (suc n) = omega (arith, weigh_gaps f n)
 
 -- the empty bag weighs nothing
 pub weigh_empty : (f : ℕ → ℕ) → weigh f empty_bag ≡ 0
 unfolding empty_bag
-weigh_empty f = weigh-gaps f slot_count
+weigh_empty f = weigh_gaps f slot_count
 
 -- Insertion.
 
@@ -106,17 +106,17 @@ weigh_halves f [] = refl
 weigh_halves f (x ∷ s) = omega (arith, weigh_halves f s, weigh_pennant_split f x)
 
 -- an empty slot at the end weighs nothing
-pub weigh-end : (f : ℕ → ℕ) (s : Bag) → weigh f (s ++ gap ∷ []) ≡ weigh f s
+pub weigh_end : (f : ℕ → ℕ) (s : Bag) → weigh f (s ++ gap ∷ []) ≡ weigh f s
 unfolding weigh weigh_slot sum_of
-weigh-end f s = omega (arith, weigh_append f s (gap ∷ []))
+weigh_end f s = omega (arith, weigh_append f s (gap ∷ []))
 
 -- the two bags of a split weigh what the bag weighed
 pub weigh_split : (f : ℕ → ℕ) (s : Bag) → weigh f (split_first s) + weigh f (split_second s) ≡ weigh f s
 unfolding split_first split_second weigh sum_of
 weigh_split f [] = refl
 weigh_split f (y ∷ s) =
-    let kept = weigh-end f (map pennant_first s) in
-    let split_off = weigh-end f (map pennant_second s) in
+    let kept = weigh_end f (map pennant_first s) in
+    let split_off = weigh_end f (map pennant_second s) in
     omega (arith, weigh_insert_filled f y (map pennant_first s ++ gap ∷ []), weigh_halves f s)
 
 -- One slot.
@@ -124,27 +124,27 @@ weigh_split f (y ∷ s) =
 -- a slot weighs no more than the bag
 pub weigh_slot_within : (f : ℕ → ℕ) (s : Bag) (k : ℕ) → weigh_slot f (get_or s k gap) ≤ weigh f s
 unfolding weigh weigh_slot
-weigh_slot_within f s k = sum-at (weigh_slot f) s k gap refl
+weigh_slot_within f s k = sum_at (weigh_slot f) s k gap refl
 
 -- The numbers held, as a list.
 
 -- a tree weighs the sum over its numbers
-weigh-tree-items : (f : ℕ → ℕ) (t : Tree) → weigh_tree f t ≡ sum_of f (tree_items t)
+weigh_tree_items : (f : ℕ → ℕ) (t : Tree) → weigh_tree f t ≡ sum_of f (tree_items t)
 unfolding weigh_tree tree_items sum_of
-weigh-tree-items f null = refl
-weigh-tree-items f (node a l r) = omega (arith, weigh-tree-items f l, weigh-tree-items f r, sum_append f (tree_items l) (tree_items r))
+weigh_tree_items f null = refl
+weigh_tree_items f (node a l r) = omega (arith, weigh_tree_items f l, weigh_tree_items f r, sum_append f (tree_items l) (tree_items r))
 
 -- and so does a slot
 pub weigh_slot_items : (f : ℕ → ℕ) (x : Slot) → weigh_slot f x ≡ sum_of f (slot_items x)
 unfolding weigh_slot slot_items sum_of
 weigh_slot_items f gap = refl
-weigh_slot_items f (tip a t) = omega (arith, weigh-tree-items f t)
+weigh_slot_items f (tip a t) = omega (arith, weigh_tree_items f t)
 
 -- a bag weighs the sum over its numbers
-pub weigh-items : (f : ℕ → ℕ) (s : Bag) → weigh f s ≡ sum_of f (items s)
+pub weigh_items : (f : ℕ → ℕ) (s : Bag) → weigh f s ≡ sum_of f (items s)
 unfolding weigh items sum_of
-weigh-items f [] = refl
-weigh-items f (x ∷ s) = omega (arith, weigh_slot_items f x, weigh-items f s, sum_append f (slot_items x) (items s))
+weigh_items f [] = refl
+weigh_items f (x ∷ s) = omega (arith, weigh_slot_items f x, weigh_items f s, sum_append f (slot_items x) (items s))
 
 -- One number.
 
@@ -153,12 +153,12 @@ pub only_self : (v : ℕ) → only v v ≡ 1
 only_self v = rw (eq-eqb v v refl)
 
 -- not in another
-pub only-other : (v x : ℕ) → (x ≡ v → ⊥) → only v x ≡ 0
-only-other v x apart = rw (ne_eqb x v apart)
+pub only_other : (v x : ℕ) → (x ≡ v → ⊥) → only v x ≡ 0
+only_other v x apart = rw (ne_eqb x v apart)
 
 -- and at most once in any
-pub only-few : (v x : ℕ) → only v x ≤ 1
-only-few v x = test-within (eqb x v) 1 (λ e. omega arith)
+pub only_few : (v x : ℕ) → only v x ≤ 1
+only_few v x = test_within (eqb x v) 1 (λ e. omega arith)
 
 -- Empty or not.
 
@@ -181,16 +181,16 @@ empty_weighs f (gap ∷ s) e = omega (arith, empty_weighs f s e)
 empty_weighs f (tip a t ∷ s) e = absurd (true≢false (sym e))
 
 -- a bag that is not empty holds a number
-pub filled-size : (s : Bag) → is_empty s ≡ false → 1 ≤ size s
-filled-size s e = let apart = eqb-false (size s) 0 (sym (empty_size s) ∙ e) in omega arith
+pub filled_size : (s : Bag) → is_empty s ≡ false → 1 ≤ size s
+filled_size s e = let apart = eqb-false (size s) 0 (sym (empty_size s) ∙ e) in omega arith
 
 -- a bag that holds a number is not empty
-pub sized-filled : (s : Bag) → 1 ≤ size s → is_empty s ≡ false
-sized-filled s h = empty_size s ∙ ne_eqb (size s) 0 (λ q. omega arith)
+pub sized_filled : (s : Bag) → 1 ≤ size s → is_empty s ≡ false
+sized_filled s h = empty_size s ∙ ne_eqb (size s) 0 (λ q. omega arith)
 
 -- the number that is taken is held
-pub taken-held : (s : Bag) → is_empty s ≡ false → 1 ≤ copies (taken_number s) s
+pub taken_held : (s : Bag) → is_empty s ≡ false → 1 ≤ copies (taken_number s) s
 unfolding is_empty taken_number weigh weigh_slot sum_of
-taken-held [] e = absurd (true≢false e)
-taken-held (gap ∷ s) e = omega (arith, taken-held s e)
-taken-held (tip a t ∷ s) e = omega (arith, only_self a)
+taken_held [] e = absurd (true≢false e)
+taken_held (gap ∷ s) e = omega (arith, taken_held s e)
+taken_held (tip a t ∷ s) e = omega (arith, only_self a)

@@ -4,7 +4,7 @@ use mathlib.Core.List.{List, [], ◌∷◌, ◌++◌, append_assoc, map, flatten
 use Prim.Native.Nat.{ℕ, ◌+◌}
 use lib.ListN.{get_or}
 use Rattle.lists.specs.Lists.{numbers_from}
-use Rattle.lists.proofs.Chunks.{flatten-more}
+use Rattle.lists.proofs.Chunks.{flatten_more}
 use Rattle.lists.proofs.Tests.{map_range_more}
 use Rattle.text.specs.Text.{space, line_feed, decimal, label_text, right_aligned}
 use Rattle.text.specs.Printed.{Prints}
@@ -29,17 +29,17 @@ unfolding vertex_line
 vertex_line_fields vertex distance parent = simp (unaligned, append_assoc)
 
 -- no lines yet
-pub vertex-lines-none : (distances parents : List ℕ) → [] ≡ vertex_lines 0 distances parents
+pub vertex_lines_none : (distances parents : List ℕ) → [] ≡ vertex_lines 0 distances parents
 unfolding vertex_lines numbers_from flatten
-vertex-lines-none distances parents = refl
+vertex_lines_none distances parents = refl
 
 -- one line more
-pub vertex-lines-more : (v : ℕ) (distances parents : List ℕ)
+pub vertex_lines_more : (v : ℕ) (distances parents : List ℕ)
     → vertex_lines v distances parents ++ vertex_line v (get_or distances v 0) (get_or parents v 0) ≡ vertex_lines (v + 1) distances parents
 unfolding vertex_lines
-vertex-lines-more v distances parents =
+vertex_lines_more v distances parents =
     let line : ℕ → List ℕ = λ (u : ℕ). vertex_line u (get_or distances u 0) (get_or parents u 0) in
-    sym (flatten-more (map line (numbers_from 0 v)) (line v)) ∙ ap flatten (map_range_more line v)
+    sym (flatten_more (map line (numbers_from 0 v)) (line v)) ∙ ap flatten (map_range_more line v)
 
 -- a step that prints the next line
 pub prints_line : (v : ℕ) (distances parents : List ℕ) {distance parent : ℕ} {output output' output'' : List ℕ} {at at' at'' : ℕ}
@@ -50,4 +50,4 @@ prints_line v distances parents {distance} {parent} d p f g =
     prints_same (prints_then (vertex_lines v distances parents) (vertex_line v distance parent) f g)
     (ap (λ (x : ℕ). vertex_lines v distances parents ++ vertex_line v x parent) d
     ∙ ap (λ (x : ℕ). vertex_lines v distances parents ++ vertex_line v (get_or distances v 0) x) p
-    ∙ vertex-lines-more v distances parents)
+    ∙ vertex_lines_more v distances parents)

@@ -21,7 +21,7 @@ use Rattle.report.specs.Input.{program_events, source_in, workers_in, events_in,
 use Rattle.report.specs.Input.{sizes_refusals, own_refusals}
 use Rattle.report.specs.Lines.{first_line}
 use Rattle.report.specs.Respond.{searched, lines, refused_with, response}
-use Rattle.report.proofs.InputFacts.{sizes-passed, own-events, own-sizes}
+use Rattle.report.proofs.InputFacts.{sizes_passed, own_events, own_sizes}
 
 -- Refusals.
 
@@ -59,9 +59,9 @@ too_long file source P schedule lent four inside far =
     rw (le-ltb (length file) 4 four, inside, ne_eqb (length file) size apart)
 
 -- with 1 the schedule is not played
-length-refused : plays bad_length ≡ false
+length_refused : plays bad_length ≡ false
 unfolding plays elem
-length-refused = refl
+length_refused = refl
 
 -- Inputs that are too long.
 
@@ -70,25 +70,25 @@ last_number : ℕ → ℕ → ℕ
 last_number n m = first (sizes_refusals n m ++ (true gives bad_length ∷ []))
 
 -- the numbers of the sizes are positive
-positive-sizes : (n m : ℕ) → Positive (sizes_refusals n m)
+positive_sizes : (n m : ℕ) → Positive (sizes_refusals n m)
 unfolding sizes_refusals
-positive-sizes n m = omega arith
+positive_sizes n m = omega arith
 
 -- n and m are refused
-last-sizes : {k : ℕ} (n m : ℕ) → first (sizes_refusals n m) ≡ suc k → last_number n m ≡ suc k
+last_sizes : {k : ℕ} (n m : ℕ) → first (sizes_refusals n m) ≡ suc k → last_number n m ≡ suc k
 unfolding last_number
-last-sizes n m e = first_append_stop (sizes_refusals n m) (true gives bad_length ∷ []) (omega arith) ∙ e
+last_sizes n m e = first_append_stop (sizes_refusals n m) (true gives bad_length ∷ []) (omega arith) ∙ e
 
 -- n and m pass
-last-length : (n m : ℕ) → first (sizes_refusals n m) ≡ 0 → last_number n m ≡ bad_length
+last_length : (n m : ℕ) → first (sizes_refusals n m) ≡ 0 → last_number n m ≡ bad_length
 unfolding last_number first
-last-length n m e = first_append (sizes_refusals n m) (true gives bad_length ∷ []) (positive-sizes n m) e
+last_length n m e = first_append (sizes_refusals n m) (true gives bad_length ∷ []) (positive_sizes n m) e
 
 module _ (input : List ℕ) (long : longest_input < length input) where
   -- 20 where its schedule is too long
-  long-events : program_events < events_in input → response input ≡ first_line (refused_with short_list)
+  long_events : program_events < events_in input → response input ≡ first_line (refused_with short_list)
   unfolding events_in
-  long-events h = own_line input (own-events input (omega arith) refl h) (λ z. absurd (omega arith))
+  long_events h = own_line input (own_events input (omega arith) refl h) (λ z. absurd (omega arith))
 
   -- the file
   abbrev file : List ℕ
@@ -103,24 +103,24 @@ module _ (input : List ℕ) (long : longest_input < length input) where
   m = edge_count file
 
   -- otherwise by n and m
-  long-file : events_in input ≤ program_events → response input ≡ first_line (refused_with (last_number n m))
+  long_file : events_in input ≤ program_events → response input ≡ first_line (refused_with (last_number n m))
   unfolding events_in file_in vertex_count edge_count
-  long-file few = go (first (sizes_refusals n m)) refl
+  long_file few = go (first (sizes_refusals n m)) refl
     where
       own : first (sizes_refusals n m) ≡ first (own_refusals input)
-      own = own-sizes input (omega arith) refl few refl (omega arith) refl refl refl
+      own = own_sizes input (omega arith) refl few refl (omega arith) refl refl refl
 
       size : length file + (6 + events_in input) ≡ length input
       size = omega (arith, length-drop (6 + events_in input) input)
 
       go : (k : ℕ) → first (sizes_refusals n m) ≡ k → response input ≡ first_line (refused_with (last_number n m))
       go zero e =
-          let fit = sizes-passed n m e in
+          let fit = sizes_passed n m e in
           let one = too_long file (source_in input) (workers_in input) (schedule_in input) program_lists (omega (arith, size)) fit.inside
           (omega (arith, size, fit.few-vertices, fit.few-edges)) in
-          search_line input (sym own ∙ e) (ap plays one ∙ length-refused) ∙ ap (λ (x : ℕ). first_line (refused_with x)) (one ∙ sym (last-length n m e))
+          search_line input (sym own ∙ e) (ap plays one ∙ length_refused) ∙ ap (λ (x : ℕ). first_line (refused_with x)) (one ∙ sym (last_length n m e))
       go (suc k) e =
-          own_line input (sym e ∙ own) (λ z. absurd (omega arith)) ∙ ap (λ (x : ℕ). first_line (refused_with x)) (sym (last-sizes n m e))
+          own_line input (sym e ∙ own) (λ z. absurd (omega arith)) ∙ ap (λ (x : ℕ). first_line (refused_with x)) (sym (last_sizes n m e))
 
 -- An input longer than any that can be accepted, and its first k bytes, still longer than any such.
 module _ (input : List ℕ) (k : ℕ) (far : longest_input < k) (there : k ≤ length input) where
@@ -150,14 +150,14 @@ module _ (input : List ℕ) (k : ℕ) (far : longest_input < k) (there : k ≤ l
       go : (b : Bool) → ltb program_events (events_in input) ≡ b → response short ≡ response input
       go true e =
           let many = ltb-true program_events (events_in input) e in
-          long-events short (omega (arith, size)) (omega (arith, events)) ∙ sym (long-events input (omega arith) many)
+          long_events short (omega (arith, size)) (omega (arith, events)) ∙ sym (long_events input (omega arith) many)
       go false e =
           let few = ltb-false program_events (events_in input) e in
-          long-file short (omega (arith, size)) (omega (arith, events))
+          long_file short (omega (arith, size)) (omega (arith, events))
           ∙ ap (λ (n : ℕ). first_line (refused_with (last_number n (word (file_in short) 1)))) (same few 0 (omega arith))
           ∙ ap (λ (m : ℕ). first_line (refused_with (last_number (word (file_in input) 0) m))) (same few 1 (omega arith))
-          ∙ sym (long-file input (omega arith) few)
+          ∙ sym (long_file input (omega arith) few)
 
 -- so the program may stop reading one byte past that length
-pub long-input : (input : List ℕ) → longest_input < length input → response (take (suc longest_input) input) ≡ response input
-long-input input h = long_part input (suc longest_input) (omega arith) h
+pub long_input : (input : List ℕ) → longest_input < length input → response (take (suc longest_input) input) ≡ response input
+long_input input h = long_part input (suc longest_input) (omega arith) h

@@ -4,7 +4,6 @@ use mathlib.Core.Bool.{true, false}
 use mathlib.Core.List.{List, []}
 use Prim.Native.Nat.{ℕ, ◌+◌, ◌-◌, ◌≤◌}
 use native.Mathlib.Omega.{arith}
-use lib.Dec.{eqb}
 use lib.ListN.{length, take, drop}
 use borrow.Author.Tests.{ne_eqb, eq-eqb}
 use Rattle.numbers.specs.Numbers.{success, unfinished}
@@ -26,19 +25,19 @@ use Rattle.report.proofs.OutputFacts.{one_line, own_line}
 -- The numbers with which the schedule was played.
 
 -- 0 is one
-pub plays-success : {number : ℕ} → number ≡ success → plays number ≡ true
+pub plays_success : {number : ℕ} → number ≡ success → plays number ≡ true
 unfolding plays elem
-plays-success e = rw e refl
+plays_success e = rw e refl
 
 -- 21 is one
-pub plays-unfinished : {number : ℕ} → (number ≡ success → ⊥) → eqb number unfinished ≡ true → plays number ≡ true
+pub plays_unfinished : {number : ℕ} → (number ≡ success → ⊥) → number ≡ unfinished → plays number ≡ true
 unfolding plays elem
-plays-unfinished {number} h e = rw (ne_eqb number success h, e)
+plays_unfinished {number} h e = rw (ne_eqb number success h, eq-eqb number unfinished e)
 
 -- no other is
-pub plays_neither : {number : ℕ} → (number ≡ success → ⊥) → eqb number unfinished ≡ false → plays number ≡ false
+pub plays_neither : {number : ℕ} → (number ≡ success → ⊥) → (number ≡ unfinished → ⊥) → plays number ≡ false
 unfolding plays elem
-plays_neither {number} h e = rw (ne_eqb number success h, e)
+plays_neither {number} h e = rw (ne_eqb number success h, ne_eqb number unfinished e)
 
 -- The call of the search.
 

@@ -11,7 +11,8 @@ use Rattle.report.specs.Lines.{first_line, vertex_lines}
 
 -- "then as above": the search, with the program's lists
 unfoldable pub searched : List ℕ → Outcome
-searched input = outcome_of_search (file_in input) (source_in input) (workers_in input) (schedule_in input) program_lists
+searched input =
+    outcome_of_search (file_in input) (source_in input) (workers_in input) (schedule_in input) program_lists
 
 -- "With 0 or 21, a line for each device ..; otherwise line one is all." (§11.4)
 unfoldable pub lines : ℕ → Outcome → List ℕ

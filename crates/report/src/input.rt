@@ -32,7 +32,8 @@ pub fn own_number(input: &[u8]) -> usize
         return numbers::BAD_LENGTH;
     }
     let events = word(input, 2);
-    if PROGRAM_EVENTS < events {
+    let long = PROGRAM_EVENTS < events;
+    if long {
         return numbers::SHORT_LIST;
     }
     let start = 6 + events;

@@ -55,7 +55,8 @@ fn search_and_print(input: &[u8], output: &mut [u8]) -> usize
         answer.effective,
         answer.layer,
     );
-    if answer.number == numbers::SUCCESS || answer.number == numbers::UNFINISHED {
+    let finished = answer.number == numbers::SUCCESS;
+    if finished || answer.number == numbers::UNFINISHED {
         return put_vertex_lines(output, next, word(file, 0), &distances, &parents);
     }
     next
@@ -79,7 +80,7 @@ pub fn respond(input: &[u8], output: &mut [u8]) -> usize
 
 // The program in its buffers: the first `read` bytes of the input buffer are the input, or all of it
 // where `read` is larger. By its type that buffer has one place more than the longest input that can
-// be accepted; a longer input is answered as the bytes that fill the buffer are (`long-input`,
+// be accepted; a longer input is answered as the bytes that fill the buffer are (`long_input`,
 // proofs/OutputFacts.antt).
 pub fn respond_in(
     input: &[u8; INPUT_PLACES],

@@ -14,8 +14,8 @@ use Rattle.graph.specs.Read.{read_exit, outcome_of_read}
 use Rattle.graph.specs.Encode.{encode}
 use Rattle.graph.specs.Write.{row_count, WriteOutcome, write_exit, write_number, outcome_of_write, write_outcome_by}
 use Rattle.graph.specs.declared.ReadAnswer.{ReadAnswer}
-use Rattle.graph.proofs.Bridge.{accept_rows, offsets-count}
-use Rattle.graph.proofs.RoundTrip.{written-passed, written_read}
+use Rattle.graph.proofs.Bridge.{accept_rows, offsets_count}
+use Rattle.graph.proofs.RoundTrip.{written_passed, written_read}
 use Rattle.round_trip.specs.Trip.{trip_exit, trip_after, outcome_of_trip}
 
 -- rows that were written, and the list that they were written to
@@ -27,12 +27,12 @@ pub record Fitting (offsets targets file : List ℕ) : Type 0 where
 
 module _ (offsets targets bytes : List ℕ) {number : ℕ} {file : List ℕ} (wrote : write_exit number file ≡ outcome_of_write offsets targets bytes) where
   -- with 0 the rows fit the list that was lent
-  pub wrote-fitting : number ≡ 0 → Fitting offsets targets bytes
+  pub wrote_fitting : number ≡ 0 → Fitting offsets targets bytes
   unfolding outcome_of_write write_outcome_by
-  wrote-fitting h =
-      let passed = written-passed offsets targets bytes (sym (ap (λ (o : WriteOutcome). o.number) wrote) ∙ h) in
+  wrote_fitting h =
+      let passed = written_passed offsets targets bytes (sym (ap (λ (o : WriteOutcome). o.number) wrote) ∙ h) in
       let rows = accept_rows offsets targets passed.0 in
-      let count = offsets-count offsets rows.rows.some in
+      let count = offsets_count offsets rows.rows.some in
       record {
         some = rows.rows.some;
         few_vertices = omega (arith, rows.few_vertices);

@@ -1,5 +1,7 @@
 // Rows written and read back: the round trip of the two calls' definitions, said once more of the
 // results that the calls themselves hand back. The theorem is `returned` in proofs/Facts.antt.
+#![tactic(auto)]
+
 ghost use Rattle.std.specs.Prelude.{◌≡◌};
 ghost use Rattle.round_trip.specs.Trip.{trip_exit, outcome_of_trip};
 

@@ -8,6 +8,7 @@ use bagkit::contents::are_parts;
 use bagkit::counts::{add_nodes, are_ones};
 use bagkit::family;
 use bagkit::walk::{filled, free_nodes};
+use std::io;
 use testkit::group::Tally;
 use testkit::words::at;
 
@@ -84,11 +85,11 @@ fn two_bags(left: &mut [u16], right: &mut [u16], values: &mut [u16]) -> Tally
     Tally::new().with(before).with(united).with(split)
 }
 
-pub fn run() {
+pub fn run(rt: &impl Print) -> io::Result<()> {
     let mut left = [0u16; 32769];
     let mut right = [0u16; 32769];
     let mut values = [0u16; 32769];
     let one = one_bag(&mut left, &mut right, &mut values);
     let two = two_bags(&mut left, &mut right, &mut values);
-    one.and(two).print(b"largest bag");
+    one.and(two).print(rt, b"largest bag")
 }

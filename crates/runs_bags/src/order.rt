@@ -7,6 +7,7 @@ ghost use Rattle.bagkit.specs.Family.{Room};
 
 use bag::Bag;
 use bagkit::family;
+use std::io;
 use testkit::group::Tally;
 
 // Whether the numbers of bag i come out as listed, and none is left.
@@ -98,6 +99,6 @@ fn halves() -> Tally {
         .with(split(11, 1, &second, &mut left, &mut right, &mut values))
 }
 
-pub fn run() {
-    unions().and(halves()).print(b"order of taking");
+pub fn run(rt: &impl Print) -> io::Result<()> {
+    unions().and(halves()).print(rt, b"order of taking")
 }

@@ -5,6 +5,7 @@ ghost use Rattle.bagkit.specs.Family.{Room};
 use bag::Bag;
 use bagkit::contents::are_parts;
 use bagkit::family;
+use std::io;
 use testkit::group::Tally;
 
 // A new pool, the numbers below `count` in bag 0, and split into bags 0 and 1.
@@ -48,7 +49,7 @@ fn sizes() -> Tally {
     tally
 }
 
-pub fn run() {
+pub fn run(rt: &impl Print) -> io::Result<()> {
     let known = gives(23, 12, 11);
-    sizes().with(known).print(b"splits of every size");
+    sizes().with(known).print(rt, b"splits of every size")
 }

@@ -13,7 +13,7 @@ pub const VERTEX_KINDS: u16 = 15;
 pub const EDGE_KINDS: u16 = 3;
 
 // The new labels of a vertex.
-#[derive(Drop)]
+#[derive(Clone, Copy)]
 pub struct Change {
     pub vertex: u16,
     pub distance: u16,

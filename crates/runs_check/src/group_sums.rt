@@ -2,14 +2,14 @@
 use testkit::group::Tally;
 
 // What a call had to answer, and whether it answered and left that.
-#[derive(Drop)]
+#[derive(Clone, Copy)]
 pub struct Outcome {
     pub number: usize,
     pub right: bool,
 }
 
 // The tally, and how many of the cases had to give 10.
-#[derive(Drop)]
+#[derive(Clone, Copy)]
 pub struct Sums {
     pub tally: Tally,
     pub tens: u64,

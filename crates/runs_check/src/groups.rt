@@ -5,7 +5,7 @@ use crate::{drawn, plans};
 use checkkit::plans::COMBINATIONS;
 use checkkit::results::{LONGER, RIGHT};
 use checkkit::tables;
-use libc::STDOUT_FILENO;
+use std::io;
 
 // The groups after those of `plans`: the tables.
 const FIRST_TABLE: u16 = 13;
@@ -62,47 +62,50 @@ fn all(group: u16, cases: u16) -> Sums {
 }
 
 // The group's line, and how many of its results were wrong.
-fn print(group: u16, cases: u16, name: &[u8]) {
+fn print(rt: &impl Print, group: u16, cases: u16, name: &str) -> io::Result<()> {
     let sums = all(group, cases);
     let tally = sums.tally;
-    tally.print(name);
-    io::print_decimal(STDOUT_FILENO, sums.tens);
-    io::write_all(STDOUT_FILENO, b" of them number 10\n");
+    let tens = sums.tens;
+    tally.print(rt, name.as_bytes())?;
+    println!(rt; "{tens} of them number 10")
 }
 
 // Results of small graphs.
-fn run_results() {
-    print(RIGHT, GRAPHS, b"right results");
-    print(plans::VERTEX_GROUP, CHANGED, b"changed labels");
-    print(plans::EDGE_GROUP, CHANGED, b"other edges");
-    print(plans::LONG_GROUP, LONG, b"longer lists");
-    print(LONGER, GRAPHS, b"longer paths");
-    print(plans::OTHER_GROUP, OTHERS, b"other results");
+fn run_results(rt: &impl Print) -> io::Result<()> {
+    print(rt, RIGHT, GRAPHS, "right results")?;
+    print(rt, plans::VERTEX_GROUP, CHANGED, "changed labels")?;
+    print(rt, plans::EDGE_GROUP, CHANGED, "other edges")?;
+    print(rt, plans::LONG_GROUP, LONG, "longer lists")?;
+    print(rt, LONGER, GRAPHS, "longer paths")?;
+    print(rt, plans::OTHER_GROUP, OTHERS, "other results")
 }
 
 // Refusals, lengths and sizes.
-fn run_inputs() {
+fn run_inputs(rt: &impl Print) -> io::Result<()> {
     print(
+        rt,
         FIRST_TABLE + tables::REFUSAL_TABLE,
         tables::REFUSAL_CASES,
-        b"refusals",
-    );
+        "refusals",
+    )?;
     print(
+        rt,
         FIRST_TABLE + tables::SOURCE_TABLE,
         tables::SOURCE_CASES,
-        b"sources",
-    );
+        "sources",
+    )?;
     print(
+        rt,
         FIRST_TABLE + tables::FAULT_TABLE,
         tables::FAULT_CASES,
-        b"sets of faults",
-    );
-    print(plans::LENGTH_GROUP, COMBINATIONS, b"lengths");
-    print(plans::SIZE_GROUP, plans::SIZE_CASES, b"sizes");
-    print(plans::LARGE_GROUP, plans::LARGE_CASES, b"largest graphs");
+        "sets of faults",
+    )?;
+    print(rt, plans::LENGTH_GROUP, COMBINATIONS, "lengths")?;
+    print(rt, plans::SIZE_GROUP, plans::SIZE_CASES, "sizes")?;
+    print(rt, plans::LARGE_GROUP, plans::LARGE_CASES, "largest graphs")
 }
 
-pub fn run() {
-    run_results();
-    run_inputs();
+pub fn run(rt: &impl Print) -> io::Result<()> {
+    run_results(rt)?;
+    run_inputs(rt)
 }

@@ -2,6 +2,8 @@
 // as a whole, on inputs for every number of refusal, and on lists of every length, and writes for
 // each group how many cases it had, how many went wrong, and how many of the cases had to give 10.
 // Whether a result is right is judged by a queue search of the same graph.
+#![tactic(auto)]
+
 mod calls;
 mod changes;
 mod drawn;
@@ -9,6 +11,8 @@ mod group_sums;
 mod groups;
 mod plans;
 
-fn main() {
-    groups::run();
+use std::io;
+
+fn main(rt: HostRuntime) -> io::Result<()> {
+    groups::run(&rt)
 }

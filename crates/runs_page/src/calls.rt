@@ -9,7 +9,7 @@ use testkit::words::prefix;
 
 // What a call had to answer; whether it was the page list alone that was too short; and whether it
 // answered and left all that it must.
-#[derive(Drop)]
+#[derive(Clone, Copy)]
 pub struct Outcome {
     pub number: usize,
     pub late: bool,

@@ -3,8 +3,8 @@ use crate::calls::{Outcome, call};
 use crate::{drawn, plans};
 use checkkit::plans::length;
 use checkkit::tables;
-use libc::STDOUT_FILENO;
 use pagekit::need;
+use std::io;
 use testkit::group::Tally;
 
 // The groups after those of `plans`: the tables, each case with a page list one byte short, at its
@@ -13,7 +13,7 @@ const FIRST_TABLE: u16 = 4;
 
 // The tally, how many of the cases had to be laid out, and in how many it was the page list alone
 // that was too short.
-#[derive(Drop)]
+#[derive(Clone, Copy)]
 struct Sums {
     tally: Tally,
     laid: u64,
@@ -87,34 +87,36 @@ fn all(group: u16, cases: u16) -> Sums {
 
 // The group's line, and one that says how many of its cases were laid out, and how many refused for
 // the page list alone.
-fn print(group: u16, cases: u16, name: &[u8]) {
+fn print(rt: &impl Print, group: u16, cases: u16, name: &str) -> io::Result<()> {
     let sums = all(group, cases);
     let tally = sums.tally;
-    tally.print(name);
-    io::print_decimal(STDOUT_FILENO, sums.laid);
-    io::write_all(STDOUT_FILENO, b" of them laid out, ");
-    io::print_decimal(STDOUT_FILENO, sums.late);
-    io::write_all(STDOUT_FILENO, b" with the page list too short\n");
+    let laid = sums.laid;
+    let late = sums.late;
+    tally.print(rt, name.as_bytes())?;
+    println!(rt; "{laid} of them laid out, {late} with the page list too short")
 }
 
-pub fn run() {
-    print(plans::SIZE_GROUP, plans::SIZE_CASES, b"sizes");
-    print(plans::RESULT_GROUP, plans::RESULT_CASES, b"results");
-    print(plans::LENGTH_GROUP, plans::LENGTH_CASES, b"lengths");
-    print(plans::LARGE_GROUP, plans::LARGE_CASES, b"too large");
+pub fn run(rt: &impl Print) -> io::Result<()> {
+    print(rt, plans::SIZE_GROUP, plans::SIZE_CASES, "sizes")?;
+    print(rt, plans::RESULT_GROUP, plans::RESULT_CASES, "results")?;
+    print(rt, plans::LENGTH_GROUP, plans::LENGTH_CASES, "lengths")?;
+    print(rt, plans::LARGE_GROUP, plans::LARGE_CASES, "too large")?;
     print(
+        rt,
         FIRST_TABLE + tables::REFUSAL_TABLE,
         3 * tables::REFUSAL_CASES,
-        b"refusals",
-    );
+        "refusals",
+    )?;
     print(
+        rt,
         FIRST_TABLE + tables::SOURCE_TABLE,
         3 * tables::SOURCE_CASES,
-        b"sources",
-    );
+        "sources",
+    )?;
     print(
+        rt,
         FIRST_TABLE + tables::FAULT_TABLE,
         3 * tables::FAULT_CASES,
-        b"sets of faults",
-    );
+        "sets of faults",
+    )
 }

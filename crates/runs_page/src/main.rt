@@ -3,13 +3,17 @@
 // cases it had, how many went wrong, how many were laid out, and how many were refused for the page
 // list alone. What stands on a page is compared with a layout by each byte's place, whether a result
 // is right is judged by a queue search of the same graph.
+#![tactic(auto)]
+
 mod calls;
 mod drawn;
 mod groups;
 mod plans;
 mod shown;
 
-fn main() {
-    shown::run();
-    groups::run();
+use std::io;
+
+fn main(rt: HostRuntime) -> io::Result<()> {
+    shown::run(&rt)?;
+    groups::run(&rt)
 }

@@ -6,10 +6,10 @@ use checkkit::plans::{Plan, sized};
 use checkkit::queries::Query;
 use checkkit::results;
 use checkkit::results::{RIGHT, UNSET};
-use libc::STDOUT_FILENO;
 use pagekit::need;
 use searchkit::base::FILE;
 use searchkit::requests::needs;
+use std::io;
 use testkit::files::{prefix, put_words};
 use testkit::sample::file_length;
 
@@ -26,7 +26,14 @@ fn query_of(plan: Plan) -> Query {
 }
 
 // Writes a name and the pages of up to 60 vertices and edges.
-fn show(name: &[u8], plan: Plan, file: &[u8], distances: &[u16], parents: &[u16]) {
+fn show(
+    rt: &impl Print,
+    name: &str,
+    plan: Plan,
+    file: &[u8],
+    distances: &[u16],
+    parents: &[u16],
+) -> io::Result<()> {
     let mut offsets = [0u16; 61];
     let mut targets = [0u16; 60];
     let mut marks = [0u16; 60];
@@ -44,13 +51,18 @@ fn show(name: &[u8], plan: Plan, file: &[u8], distances: &[u16], parents: &[u16]
         &mut bytes,
     );
     let count = prefix(&bytes, room);
-    io::write_all(STDOUT_FILENO, name);
-    io::write_all(STDOUT_FILENO, b"\n");
-    io::write_all(STDOUT_FILENO, &bytes[..count]);
+    println!(rt; "{name}")?;
+    rt.write_all(&bytes[..count])
 }
 
 // Case A's file from a vertex on, with these labels.
-fn square(name: &[u8], source: u16, distances: &[u16], parents: &[u16]) {
+fn square(
+    rt: &impl Print,
+    name: &str,
+    source: u16,
+    distances: &[u16],
+    parents: &[u16],
+) -> io::Result<()> {
     let mut file = [0u8; 28];
     put_words(&mut file, &FILE);
     let plan = Plan {
@@ -59,11 +71,11 @@ fn square(name: &[u8], source: u16, distances: &[u16], parents: &[u16]) {
         source,
         seed: 0,
     };
-    show(name, plan, &file, distances, parents);
+    show(rt, name, plan, &file, distances, parents)
 }
 
 // A path of so many edges, up to 59.
-fn path(name: &[u8], edges: u16) {
+fn path(rt: &impl Print, name: &str, edges: u16) -> io::Result<()> {
     let mut file = [0u8; 370];
     let mut sources = [0u16; 60];
     let mut row_targets = [0u16; 60];
@@ -90,17 +102,18 @@ fn path(name: &[u8], edges: u16) {
         &mut distances,
         &mut parents,
     );
-    show(name, plan, &file, &distances, &parents);
+    show(rt, name, plan, &file, &distances, &parents)
 }
 
-pub fn run() {
-    square(b"case A", 0, &[0, 1, 1, 2], &[0, 0, 0, 1]);
+pub fn run(rt: &impl Print) -> io::Result<()> {
+    square(rt, "case A", 0, &[0, 1, 1, 2], &[0, 0, 0, 1])?;
     square(
-        b"case A from device 1",
+        rt,
+        "case A from device 1",
         1,
         &[UNSET, 0, UNSET, 1],
         &[UNSET, 1, UNSET, 1],
-    );
-    path(b"one device", 0);
-    path(b"51 devices in a row", 50);
+    )?;
+    path(rt, "one device", 0)?;
+    path(rt, "51 devices in a row", 50)
 }

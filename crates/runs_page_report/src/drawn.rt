@@ -12,7 +12,7 @@ pub const CASES: u16 = 600;
 // What is drawn for a case: the graph, how many edges of it are a path, the kind of result, how many
 // distances are given, how many bytes stand behind the file; the number, where it is not the result's
 // own; and whether the program's buffers are lent.
-#[derive(Drop)]
+#[derive(Clone, Copy)]
 pub struct Task {
     pub plan: Plan,
     pub path: u16,

@@ -1,5 +1,6 @@
 // The groups: one loop goes through the cases of a group.
 use crate::{buffers, cuts, drawn, faults, rooms, sizes, tables};
+use std::io;
 use testkit::group::Tally;
 
 const OWN_GROUP: u16 = 0;
@@ -46,14 +47,14 @@ fn all(group: u16, cases: u16) -> Tally {
     tally
 }
 
-pub fn run() {
-    all(OWN_GROUP, tables::OWN).print(b"the program's own order");
-    all(REFUSAL_GROUP, tables::REFUSALS).print(b"refusals");
-    all(SOURCE_GROUP, tables::SOURCES).print(b"sources");
-    all(FAULT_GROUP, faults::COMBINATIONS).print(b"sets of faults");
-    all(CUT_GROUP, cuts::CASES).print(b"cut and longer inputs");
-    all(SIZE_GROUP, sizes::ROWS).print(b"sizes");
-    all(DRAWN_GROUP, drawn::CASES).print(b"drawn graphs");
-    all(ROOM_GROUP, rooms::CASES).print(b"lengths of the output list");
-    all(BUFFER_GROUP, buffers::ROWS).print(b"the program's buffers");
+pub fn run(rt: &impl Print) -> io::Result<()> {
+    all(OWN_GROUP, tables::OWN).print(rt, b"the program's own order")?;
+    all(REFUSAL_GROUP, tables::REFUSALS).print(rt, b"refusals")?;
+    all(SOURCE_GROUP, tables::SOURCES).print(rt, b"sources")?;
+    all(FAULT_GROUP, faults::COMBINATIONS).print(rt, b"sets of faults")?;
+    all(CUT_GROUP, cuts::CASES).print(rt, b"cut and longer inputs")?;
+    all(SIZE_GROUP, sizes::ROWS).print(rt, b"sizes")?;
+    all(DRAWN_GROUP, drawn::CASES).print(rt, b"drawn graphs")?;
+    all(ROOM_GROUP, rooms::CASES).print(rt, b"lengths of the output list")?;
+    all(BUFFER_GROUP, buffers::ROWS).print(rt, b"the program's buffers")
 }

@@ -2,6 +2,8 @@
 // cut, overlong and drawn inputs, and with output lists of every length; and
 // `page_report::respond_in` on the longest input, shorter and longer ones. Small outputs are written
 // whole; for the rest a line for each group: how many cases it had, and how many went wrong.
+#![tactic(auto)]
+
 mod buffers;
 mod cuts;
 mod drawn;
@@ -14,7 +16,9 @@ mod shown;
 mod sizes;
 mod tables;
 
-fn main() {
-    shown::run();
-    groups::run();
+use std::io;
+
+fn main(rt: HostRuntime) -> io::Result<()> {
+    shown::run(&rt)?;
+    groups::run(&rt)
 }

@@ -2,35 +2,41 @@
 // parent, and an empty input.
 use crate::inputs::put_square;
 use crate::replies::respond;
-use libc::STDOUT_FILENO;
 use pagekit::BLANK;
+use std::io;
 use testkit::files::prefix;
 
 // Writes a name and the output.
-fn show(name: &[u8], input: &[u8]) {
+fn show(rt: &impl Print, name: &str, input: &[u8]) -> io::Result<()> {
     let mut output = [BLANK; 87738];
     let count = respond(input, input.len(), &mut output, 87738);
     let c = prefix(&output, count);
-    io::write_all(STDOUT_FILENO, name);
-    io::write_all(STDOUT_FILENO, b"\n");
-    io::write_all(STDOUT_FILENO, &output[..c]);
+    println!(rt; "{name}")?;
+    rt.write_all(&output[..c])
 }
 
 // Case A from a vertex on, with these labels.
-fn square(name: &[u8], source: u16, distances: &[u16], parents: &[u16]) {
+fn square(
+    rt: &impl Print,
+    name: &str,
+    source: u16,
+    distances: &[u16],
+    parents: &[u16],
+) -> io::Result<()> {
     let mut input = [0u8; 48];
     put_square(&mut input, source, distances, parents);
-    show(name, &input);
+    show(rt, name, &input)
 }
 
-pub fn run() {
-    square(b"case A", 0, &[0, 1, 1, 2], &[0, 0, 0, 1]);
+pub fn run(rt: &impl Print) -> io::Result<()> {
+    square(rt, "case A", 0, &[0, 1, 1, 2], &[0, 0, 0, 1])?;
     square(
-        b"case A from device 1",
+        rt,
+        "case A from device 1",
         1,
         &[65535, 0, 65535, 1],
         &[65535, 1, 65535, 1],
-    );
-    square(b"a wrong parent", 0, &[0, 1, 1, 2], &[0, 0, 0, 0]);
-    show(b"empty input", &[]);
+    )?;
+    square(rt, "a wrong parent", 0, &[0, 1, 1, 2], &[0, 0, 0, 0])?;
+    show(rt, "empty input", &[])
 }

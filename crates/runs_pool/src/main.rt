@@ -2,10 +2,14 @@
 // line for each group: how many cases it had, and how many went wrong. Four bags of one pool under
 // random operations, and the lists as a whole. Crate `bagkit` has the counts, and the walk that they
 // come from.
+#![tactic(auto)]
+
 mod random_operations;
 mod swept;
 
-fn main() {
-    random_operations::run();
-    swept::run();
+use std::io;
+
+fn main(rt: HostRuntime) -> io::Result<()> {
+    random_operations::run(&rt)?;
+    swept::run(&rt)
 }

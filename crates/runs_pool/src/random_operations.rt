@@ -10,6 +10,7 @@ use bagkit::contents::add_bag;
 use bagkit::counts::{add_nodes, are_ones, copy_row, is_sum, lower, pour, raise};
 use bagkit::family;
 use bagkit::walk::free_nodes;
+use std::io;
 use testkit::group::Tally;
 use testkit::random::{below, leap, next};
 use testkit::words::{agree, at, total};
@@ -29,14 +30,14 @@ const KIND_UNITE: u16 = 2;
 const KIND_SPLIT: u16 = 3;
 
 // The bags after an operation, and whether it did what it must.
-#[derive(Drop)]
+#[derive(Clone, Copy)]
 pub struct Outcome {
     pub bags: [Bag; 4],
     pub right: bool,
 }
 
 // Which bags and which number an operation is for.
-#[derive(Drop)]
+#[derive(Clone, Copy)]
 pub struct Choice {
     pub kind: u16,
     pub i: usize,
@@ -164,7 +165,7 @@ fn unite(
     requires pooled { Pooled left.old right.old bags }
     requires i_bound { i < 4 }
     requires j_bound { j < 4 }
-    requires i_nonzero { i ≢ j }
+    requires differ { i ≢ j }
     ensures { Pooled left.new right.new result.bags }
 {
     pour(counts, base(j), base(i), ROW_PLACES);
@@ -269,7 +270,7 @@ fn drawn_kind(round: u16, seed: u64) -> u16 {
 fn drawn_choice(round: u16, seed: u64) -> Choice
     ensures i_bound { result.i < 4 }
     ensures j_bound { result.j < 4 }
-    ensures i_nonzero { result.i ≢ result.j }
+    ensures differ { result.i ≢ result.j }
 {
     let i = (below(seed, 4) % 4) as usize;
     let further = (below(next(seed), 3) % 3) as usize;
@@ -294,7 +295,7 @@ fn operate(
     requires left_in_bounds { length left.old ≤ length values.old }
     requires i_bound { choice.i < 4 }
     requires j_bound { choice.j < 4 }
-    requires i_nonzero { choice.i ≢ choice.j }
+    requires differ { choice.i ≢ choice.j }
     ensures { Pooled left.new right.new result.bags }
 {
     if choice.kind == KIND_INSERT {
@@ -371,10 +372,10 @@ fn rounds(left: &mut [u16], right: &mut [u16], values: &mut [u16], counts: &mut 
     tally
 }
 
-pub fn run() {
+pub fn run(rt: &impl Print) -> io::Result<()> {
     let mut left = [0u16; 301];
     let mut right = [0u16; 301];
     let mut values = [0u16; 301];
     let mut counts = [0u16; 200];
-    rounds(&mut left, &mut right, &mut values, &mut counts).print(b"random operations");
+    rounds(&mut left, &mut right, &mut values, &mut counts).print(rt, b"random operations")
 }

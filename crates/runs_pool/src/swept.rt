@@ -1,6 +1,7 @@
 // The lists as a whole: what `bag::sweep` clears and what it keeps, which places `bag::pool` chains
 // and which it keeps. Both with known contents before, at every size that the lists have room for.
 use bagkit::walk::free_nodes;
+use std::io;
 use testkit::group::Tally;
 use testkit::words::{at_place, holds, is_stamped, stamp};
 
@@ -75,6 +76,6 @@ fn all_pools() -> Tally {
     tally
 }
 
-pub fn run() {
-    all_sweeps().and(all_pools()).print(b"swept lists");
+pub fn run(rt: &impl Print) -> io::Result<()> {
+    all_sweeps().and(all_pools()).print(rt, b"swept lists")
 }

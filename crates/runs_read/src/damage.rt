@@ -1,6 +1,6 @@
 // Good files with damage. What each must answer is foretold by `oracle`, and compared in full.
 use crate::oracle::predict;
-use libc::STDOUT_FILENO;
+use std::io;
 use testkit::files;
 use testkit::group::Tally;
 use testkit::random::{below, leap, next};
@@ -188,25 +188,22 @@ fn count(met: &mut [u16], number: usize) {
 }
 
 // Writes ", N of K": K was met N times.
-fn print_met(met: &[u16], number: u16) {
-    io::write_all(STDOUT_FILENO, b", ");
-    io::print_decimal(STDOUT_FILENO, at(met, number) as u64);
-    io::write_all(STDOUT_FILENO, b" of ");
-    io::print_decimal(STDOUT_FILENO, number as u64);
+fn print_met(rt: &impl Print, met: &[u16], number: u16) -> io::Result<()> {
+    let times = at(met, number);
+    print!(rt; ", {times} of {number}")
 }
 
-pub fn run() {
+pub fn run(rt: &impl Print) -> io::Result<()> {
     let mut met = [0u16; 100];
-    rounds(&mut met).print(b"damaged files");
-    io::write_all(STDOUT_FILENO, b"numbers met: ");
-    io::print_decimal(STDOUT_FILENO, at(&met, 0) as u64);
-    io::write_all(STDOUT_FILENO, b" of 0");
-    print_met(&met, 1);
-    print_met(&met, 2);
-    print_met(&met, 3);
-    print_met(&met, 4);
-    print_met(&met, 5);
-    print_met(&met, 6);
-    print_met(&met, 20);
-    io::write_all(STDOUT_FILENO, b"\n");
+    rounds(&mut met).print(rt, b"damaged files")?;
+    let taken = at(&met, 0);
+    print!(rt; "numbers met: {taken} of 0")?;
+    print_met(rt, &met, 1)?;
+    print_met(rt, &met, 2)?;
+    print_met(rt, &met, 3)?;
+    print_met(rt, &met, 4)?;
+    print_met(rt, &met, 5)?;
+    print_met(rt, &met, 6)?;
+    print_met(rt, &met, 20)?;
+    println!(rt)
 }

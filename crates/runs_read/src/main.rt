@@ -1,5 +1,7 @@
 // Runs `graph::read` on files of every kind and writes a line for each group: how many cases it
 // had, and how many went wrong.
+#![tactic(auto)]
+
 mod damage;
 mod drawn;
 mod oracle;
@@ -7,9 +9,11 @@ mod refusals;
 mod short_lists;
 mod sizes;
 
-fn main() {
-    refusals::run();
-    sizes::run();
-    short_lists::run();
-    damage::run();
+use std::io;
+
+fn main(rt: HostRuntime) -> io::Result<()> {
+    refusals::run(&rt)?;
+    sizes::run(&rt)?;
+    short_lists::run(&rt)?;
+    damage::run(&rt)
 }

@@ -104,7 +104,7 @@ fn lists_number(lengths: Lengths, vertices: u16, edges: u16) -> usize {
 
 // Where a walk of all chains is: the vertices whose chains were begun, the record to meet next or
 // 0, and how many records were met.
-#[derive(Drop)]
+#[derive(Clone, Copy)]
 struct Walk {
     vertex: u16,
     record: u16,

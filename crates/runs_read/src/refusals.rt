@@ -1,5 +1,6 @@
 // A file for each number of refusal. Each case changes two words of one small file, cuts the lists
 // to given lengths, and compares the answer and the three lists in full.
+use std::io;
 use testkit::files::{put_word, put_words};
 use testkit::group::Tally;
 use testkit::reading::{Lengths, refuses};
@@ -143,6 +144,6 @@ fn smallest() -> Tally {
     Tally::new().with(unreached).with(repeated).with(none)
 }
 
-pub fn run() {
-    table().and(smallest()).print(b"refusals");
+pub fn run(rt: &impl Print) -> io::Result<()> {
+    table().and(smallest()).print(rt, b"refusals")
 }

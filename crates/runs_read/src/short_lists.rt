@@ -1,6 +1,7 @@
 // Every lent list one short, at its need and longer, in all combinations, for one graph; and each
 // alone one short, the file too, for a graph of the largest size.
 use crate::drawn;
+use std::io;
 use testkit::group::Tally;
 use testkit::reading::{Lengths, needs};
 use testkit::sample::file_length;
@@ -70,12 +71,12 @@ fn largest_is_right(short: u16, number: usize) -> bool {
     drawn::is_right(4096, 32768, lent, number)
 }
 
-pub fn run() {
-    combinations().print(b"lengths of the lists");
+pub fn run(rt: &impl Print) -> io::Result<()> {
+    combinations().print(rt, b"lengths of the lists")?;
     let largest = Tally::new()
         .with(largest_is_right(0, 1))
         .with(largest_is_right(1, 20))
         .with(largest_is_right(2, 20))
         .with(largest_is_right(3, 20));
-    largest.print(b"largest file, one list short");
+    largest.print(rt, b"largest file, one list short")
 }

@@ -2,8 +2,8 @@
 // form must be right, and with 0 and 21 it has a line for each vertex of the file.
 use crate::inputs::{file_start, put_square};
 use crate::replies::ask;
-use libc::STDOUT_FILENO;
 use searchkit::requests::{Outcome, is_played};
+use std::io;
 use testkit::files::{at, put, word};
 use testkit::group::Tally;
 use testkit::random::{below, leap, next};
@@ -123,34 +123,31 @@ fn rounds(met: &mut [u16]) -> Tally {
 }
 
 // Writes ", N of K": K was met N times.
-fn print_met(met: &[u16], number: u16) {
-    io::write_all(STDOUT_FILENO, b", ");
-    io::print_decimal(STDOUT_FILENO, words::at(met, number) as u64);
-    io::write_all(STDOUT_FILENO, b" of ");
-    io::print_decimal(STDOUT_FILENO, number as u64);
+fn print_met(rt: &impl Print, met: &[u16], number: u16) -> io::Result<()> {
+    let times = words::at(met, number);
+    print!(rt; ", {times} of {number}")
 }
 
 // The line that says how often each number was met.
-fn print_numbers(met: &[u16]) {
-    io::write_all(STDOUT_FILENO, b"numbers met: ");
-    io::print_decimal(STDOUT_FILENO, words::at(met, 0) as u64);
-    io::write_all(STDOUT_FILENO, b" of 0");
-    print_met(met, 1);
-    print_met(met, 2);
-    print_met(met, 3);
-    print_met(met, 4);
-    print_met(met, 5);
-    print_met(met, 6);
-    print_met(met, 7);
-    print_met(met, 8);
-    print_met(met, 9);
-    print_met(met, 20);
-    print_met(met, 21);
-    io::write_all(STDOUT_FILENO, b"\n");
+fn print_numbers(rt: &impl Print, met: &[u16]) -> io::Result<()> {
+    let taken = words::at(met, 0);
+    print!(rt; "numbers met: {taken} of 0")?;
+    print_met(rt, met, 1)?;
+    print_met(rt, met, 2)?;
+    print_met(rt, met, 3)?;
+    print_met(rt, met, 4)?;
+    print_met(rt, met, 5)?;
+    print_met(rt, met, 6)?;
+    print_met(rt, met, 7)?;
+    print_met(rt, met, 8)?;
+    print_met(rt, met, 9)?;
+    print_met(rt, met, 20)?;
+    print_met(rt, met, 21)?;
+    println!(rt)
 }
 
-pub fn run() {
+pub fn run(rt: &impl Print) -> io::Result<()> {
     let mut met = [0u16; 100];
-    rounds(&mut met).print(b"drawn bytes");
-    print_numbers(&met);
+    rounds(&mut met).print(rt, b"drawn bytes")?;
+    print_numbers(rt, &met)
 }

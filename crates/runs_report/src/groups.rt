@@ -1,6 +1,7 @@
 // The groups that are tables or draws: one loop goes through the cases of a group.
 use crate::{buffers, cuts, drawn, faults, rooms, sizes, tables};
 use searchkit::refusals;
+use std::io;
 use testkit::group::Tally;
 
 const OWN_GROUP: u16 = 0;
@@ -56,13 +57,13 @@ fn all(group: u16, cases: u16) -> Tally {
     tally
 }
 
-pub fn run() {
-    all(OWN_GROUP, tables::OWN).print(b"the program's own order");
-    all(REFUSAL_GROUP, refusals::ROWS).print(b"refusals");
-    all(FAULT_GROUP, faults::COMBINATIONS).print(b"sets of faults");
-    all(CUT_GROUP, cuts::CASES).print(b"cut and longer inputs");
-    all(SIZE_GROUP, sizes::ROWS).print(b"sizes");
-    all(DRAWN_GROUP, drawn::ROUND_COUNT).print(b"drawn graphs");
-    all(ROOM_GROUP, rooms::CASES).print(b"lengths of the output list");
-    all(BUFFER_GROUP, buffers::ROWS).print(b"the program's buffers");
+pub fn run(rt: &impl Print) -> io::Result<()> {
+    all(OWN_GROUP, tables::OWN).print(rt, b"the program's own order")?;
+    all(REFUSAL_GROUP, refusals::ROWS).print(rt, b"refusals")?;
+    all(FAULT_GROUP, faults::COMBINATIONS).print(rt, b"sets of faults")?;
+    all(CUT_GROUP, cuts::CASES).print(rt, b"cut and longer inputs")?;
+    all(SIZE_GROUP, sizes::ROWS).print(rt, b"sizes")?;
+    all(DRAWN_GROUP, drawn::ROUND_COUNT).print(rt, b"drawn graphs")?;
+    all(ROOM_GROUP, rooms::CASES).print(rt, b"lengths of the output list")?;
+    all(BUFFER_GROUP, buffers::ROWS).print(rt, b"the program's buffers")
 }

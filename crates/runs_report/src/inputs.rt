@@ -4,7 +4,7 @@ use searchkit::requests::Request;
 use testkit::files::{copy, put_word, put_word_at, put_words};
 
 // The words of an input, and the length of its file in bytes.
-#[derive(Drop)]
+#[derive(Clone, Copy)]
 pub struct Parts {
     pub source: u16,
     pub workers: u16,

@@ -2,6 +2,9 @@
 // overlong and drawn inputs, and with output lists of every length; and `report::respond_in` on the
 // longest input and on longer ones. Small outputs are written whole; for the rest a line for each
 // group: how many cases it had, and how many went wrong.
+#![tactic(auto)]
+
+mod answer_text;
 mod buffers;
 mod cuts;
 mod damage;
@@ -14,10 +17,11 @@ mod rooms;
 mod shown;
 mod sizes;
 mod tables;
-mod text;
 
-fn main() {
-    shown::run();
-    groups::run();
-    damage::run();
+use std::io;
+
+fn main(rt: HostRuntime) -> io::Result<()> {
+    shown::run(&rt)?;
+    groups::run(&rt)?;
+    damage::run(&rt)
 }

@@ -1,5 +1,5 @@
 // Calls of `respond`, each with its output read back and compared.
-use crate::text;
+use crate::answer_text;
 use searchkit::requests::Outcome;
 use testkit::files::{is_filled, prefix};
 
@@ -22,7 +22,7 @@ pub fn read(
     parents: &mut [u16],
 ) -> Outcome {
     let c = prefix(output, count);
-    text::read(&output[..c], vertices, distances, parents)
+    answer_text::read(&output[..c], vertices, distances, parents)
 }
 
 // The reply to the first bytes of an input, which has so many vertices where it is not refused: what

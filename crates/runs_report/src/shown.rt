@@ -2,38 +2,37 @@
 // first moves, and an empty input.
 use crate::inputs::{compose, parts_of, put_square};
 use crate::replies::{BLANK, respond};
-use libc::STDOUT_FILENO;
 use searchkit::bench;
+use std::io;
 use testkit::files::{prefix, put};
 
 // Writes a name and the output.
-fn show(name: &[u8], input: &[u8], length: usize) {
+fn show(rt: &impl Print, name: &str, input: &[u8], length: usize) -> io::Result<()> {
     let mut output = [BLANK; 8280];
     let count = respond(input, length, &mut output, 8280);
     let c = prefix(&output, count);
-    io::write_all(STDOUT_FILENO, name);
-    io::write_all(STDOUT_FILENO, b"\n");
-    io::write_all(STDOUT_FILENO, &output[..c]);
+    println!(rt; "{name}")?;
+    rt.write_all(&output[..c])
 }
 
 // Case A, with the first bytes of its schedule.
-fn square(name: &[u8], events: u16) {
+fn square(rt: &impl Print, name: &str, events: u16) -> io::Result<()> {
     let mut input = [0u8; 64];
     let length = put_square(&mut input, events);
-    show(name, &input, length);
+    show(rt, name, &input, length)
 }
 
 // Case B: events 18 and 19 are swapped.
-fn swapped(name: &[u8]) {
+fn swapped(rt: &impl Print, name: &str) -> io::Result<()> {
     let mut input = [0u8; 64];
     let length = put_square(&mut input, 25);
     put(&mut input, 23, 0);
     put(&mut input, 24, 8);
-    show(name, &input, length);
+    show(rt, name, &input, length)
 }
 
 // Cases C to I, from row 0 on.
-fn point(name: &[u8], row: u16) {
+fn point(rt: &impl Print, name: &str, row: u16) -> io::Result<()> {
     let mut file = [0u8; 10];
     let mut schedule = [0u8; 2];
     let mut input = [0u8; 64];
@@ -41,32 +40,32 @@ fn point(name: &[u8], row: u16) {
     bench::make_schedule(&mut schedule, row);
     let parts = parts_of(bench::point(row));
     let length = compose(&mut input, parts, &schedule, &file);
-    show(name, &input, length);
+    show(rt, name, &input, length)
 }
 
-fn points() {
-    point(b"case C", 0);
-    point(b"case D", 1);
-    point(b"case E", 2);
-    point(b"case F", 3);
-    point(b"case G", 4);
-    point(b"case H", 5);
-    point(b"case I", 6);
+fn points(rt: &impl Print) -> io::Result<()> {
+    point(rt, "case C", 0)?;
+    point(rt, "case D", 1)?;
+    point(rt, "case E", 2)?;
+    point(rt, "case F", 3)?;
+    point(rt, "case G", 4)?;
+    point(rt, "case H", 5)?;
+    point(rt, "case I", 6)
 }
 
 // Case A's schedule after so many bytes: taken, looked, marked, named, stowed; then a layer later.
-fn starts() {
-    square(b"case A, 0 events", 0);
-    square(b"case A, 3 events", 3);
-    square(b"case A, 4 events", 4);
-    square(b"case A, 17 events", 17);
-    square(b"case A, 24 events", 24);
+fn starts(rt: &impl Print) -> io::Result<()> {
+    square(rt, "case A, 0 events", 0)?;
+    square(rt, "case A, 3 events", 3)?;
+    square(rt, "case A, 4 events", 4)?;
+    square(rt, "case A, 17 events", 17)?;
+    square(rt, "case A, 24 events", 24)
 }
 
-pub fn run() {
-    square(b"case A", 25);
-    swapped(b"case B");
-    points();
-    starts();
-    show(b"empty input", &[], 0);
+pub fn run(rt: &impl Print) -> io::Result<()> {
+    square(rt, "case A", 25)?;
+    swapped(rt, "case B")?;
+    points(rt)?;
+    starts(rt)?;
+    show(rt, "empty input", &[], 0)
 }

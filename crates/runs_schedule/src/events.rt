@@ -1,8 +1,8 @@
 // The event of every byte, by `schedule::decode` and by `schedule::look_up`: the byte composed of it
 // must be the byte itself, or none where the byte is stray.
 use crate::composed::{CLOSE, NO_BYTE, SPLIT, UNITE, WORK, byte_of, events_of};
-use libc::STDOUT_FILENO;
 use schedule::Event;
+use std::io;
 use testkit::group::Tally;
 
 // The byte that is composed of an event. In a split w takes and v gives, in a union w gives and v
@@ -18,7 +18,7 @@ fn composed(event: Event) -> usize {
 }
 
 // Every byte, decoded and looked up; and how many are decoded as malformed.
-pub fn run() {
+pub fn run(rt: &impl Print) -> io::Result<()> {
     let table = schedule::byte_table();
     let events = events_of(8);
     let mut tally = Tally::new();
@@ -34,7 +34,6 @@ pub fn run() {
         }
         byte += 1;
     }
-    tally.print(b"every byte's event");
-    io::print_decimal(STDOUT_FILENO, malformed);
-    io::write_all(STDOUT_FILENO, b" malformed\n");
+    tally.print(rt, b"every byte's event")?;
+    println!(rt; "{malformed} malformed")
 }

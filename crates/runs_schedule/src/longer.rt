@@ -1,6 +1,7 @@
 // Schedules of 300 events, all that P workers have, in which one byte is replaced at the first place, at a
 // middle one and at the last one, by every byte; and the empty schedule.
 use crate::composed::{events_of, number};
+use std::io;
 use testkit::group::Tally;
 
 // 300 events, one after the other and again from the first on. It goes over all bytes 150 times: one
@@ -57,9 +58,9 @@ fn empty() -> Tally {
     tally
 }
 
-pub fn run() {
+pub fn run(rt: &impl Print) -> io::Result<()> {
     let few = at_places(1).and(at_places(2));
     let many = at_places(5).and(at_places(8));
-    few.and(many).print(b"a byte in a longer schedule");
-    empty().print(b"empty schedule");
+    few.and(many).print(rt, b"a byte in a longer schedule")?;
+    empty().print(rt, b"empty schedule")
 }

@@ -1,11 +1,11 @@
 // Schedules of one byte: every byte for every P from 0 to 9, and some bytes whose number is written
 // out.
 use crate::composed::{events_of, number};
-use libc::STDOUT_FILENO;
+use std::io;
 use testkit::group::Tally;
 
 // The cases of a P, and how many of its bytes were taken.
-#[derive(Drop)]
+#[derive(Clone, Copy)]
 struct Seen {
     tally: Tally,
     taken: u64,
@@ -35,17 +35,17 @@ fn every_byte(workers: usize) -> Seen {
 }
 
 // Every byte for every P, and writes how many bytes were taken for each.
-fn every_p() -> Tally {
+fn every_p(rt: &impl Print) -> io::Result<Tally> {
     let mut tally = Tally::new();
     let mut workers = 0;
     while workers <= 9 {
         let seen = every_byte(workers);
         tally = tally.and(seen.tally);
-        io::write_all(STDOUT_FILENO, b" ");
-        io::print_decimal(STDOUT_FILENO, seen.taken);
+        let taken = seen.taken;
+        print!(rt; " {taken}")?;
         workers += 1;
     }
-    tally
+    Ok(tally)
 }
 
 // 72 is 64 × 1 + 8 × 1 + 0: worker 1 takes from worker 0. One worker has two events, 0 and 192.
@@ -57,10 +57,10 @@ fn by_hand() -> Tally {
         .with(number_of(192, 1) == 0)
 }
 
-pub fn run() {
-    io::write_all(STDOUT_FILENO, b"bytes taken for P from 0 to 9:");
-    let all = every_p();
-    io::write_all(STDOUT_FILENO, b"\n");
-    all.print(b"every byte for every P");
-    by_hand().print(b"bytes by hand");
+pub fn run(rt: &impl Print) -> io::Result<()> {
+    print!(rt; "bytes taken for P from 0 to 9:")?;
+    let all = every_p(rt)?;
+    println!(rt)?;
+    all.print(rt, b"every byte for every P")?;
+    by_hand().print(rt, b"bytes by hand")
 }

@@ -1,10 +1,10 @@
 // The groups that are tables or draws: one loop goes through the cases of a group.
 use crate::{drawn, histogram, tables};
-use libc::STDOUT_FILENO;
 use searchkit::requests::Report;
 use searchkit::{
     beginnings, bench, fans, faults, paths, random_plans, refusals, short_lists, sizes,
 };
+use std::io;
 use testkit::group::Tally;
 
 const REFUSAL_GROUP: u16 = 0;
@@ -27,7 +27,7 @@ const PATH_GROUP: u16 = 8;
 
 // A group's tally, how many of its searches were finished, the sums of what was answered, and a
 // number made of all labels.
-#[derive(Drop)]
+#[derive(Clone, Copy)]
 struct Sums {
     tally: Tally,
     finished: u64,
@@ -109,42 +109,42 @@ fn all(group: u16, cases: u16) -> Sums {
 }
 
 // Writes the number and what it counts.
-fn print_sum(number: u64, name: &[u8]) {
-    io::print_decimal(STDOUT_FILENO, number);
-    io::write_all(STDOUT_FILENO, name);
+fn print_sum(rt: &impl Print, number: u64, name: &str) -> io::Result<()> {
+    print!(rt; "{number}{name}")
 }
 
 // The group's line.
-fn print(group: u16, cases: u16, name: &[u8]) {
+fn print(rt: &impl Print, group: u16, cases: u16, name: &str) -> io::Result<()> {
     let sums = all(group, cases);
     let tally = sums.tally;
-    tally.print(name);
+    tally.print(rt, name.as_bytes())
 }
 
 // The group's line, and one for its sums.
-fn print_sums(group: u16, cases: u16, name: &[u8]) {
+fn print_sums(rt: &impl Print, group: u16, cases: u16, name: &str) -> io::Result<()> {
     let sums = all(group, cases);
     let tally = sums.tally;
-    tally.print(name);
-    print_sum(sums.finished, b" finished, ");
-    print_sum(sums.used, b" events used, ");
-    print_sum(sums.effective, b" effective, ");
-    print_sum(sums.layers, b" layers, labels ");
-    print_sum(sums.digest % 2147483647, b"\n");
+    tally.print(rt, name.as_bytes())?;
+    print_sum(rt, sums.finished, " finished, ")?;
+    print_sum(rt, sums.used, " events used, ")?;
+    print_sum(rt, sums.effective, " effective, ")?;
+    print_sum(rt, sums.layers, " layers, labels ")?;
+    print_sum(rt, sums.digest % 2147483647, "\n")
 }
 
-pub fn run() {
-    print(BENCH_GROUP, bench::CASES, b"cases A to I");
-    print(REFUSAL_GROUP, refusals::ROWS, b"refusals");
-    print(FAULT_GROUP, faults::COMBINATIONS, b"sets of faults");
+pub fn run(rt: &impl Print) -> io::Result<()> {
+    print(rt, BENCH_GROUP, bench::CASES, "cases A to I")?;
+    print(rt, REFUSAL_GROUP, refusals::ROWS, "refusals")?;
+    print(rt, FAULT_GROUP, faults::COMBINATIONS, "sets of faults")?;
     print(
+        rt,
         LENGTH_GROUP,
         short_lists::COMBINATIONS,
-        b"lengths of the lists",
-    );
-    print_sums(RANDOM_GROUP, random_plans::ROUNDS, b"random schedules");
-    print_sums(SIZE_GROUP, sizes::ROWS, b"sizes");
-    print(FAN_GROUP, fans::CASES, b"census of fans");
-    print_sums(CUT_GROUP, beginnings::CASES, b"census after each byte");
-    print(PATH_GROUP, paths::CASES, b"census of a path");
+        "lengths of the lists",
+    )?;
+    print_sums(rt, RANDOM_GROUP, random_plans::ROUNDS, "random schedules")?;
+    print_sums(rt, SIZE_GROUP, sizes::ROWS, "sizes")?;
+    print(rt, FAN_GROUP, fans::CASES, "census of fans")?;
+    print_sums(rt, CUT_GROUP, beginnings::CASES, "census after each byte")?;
+    print(rt, PATH_GROUP, paths::CASES, "census of a path")
 }

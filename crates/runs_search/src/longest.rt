@@ -2,6 +2,7 @@
 use crate::rooms;
 use searchkit::compare::{DISTANCES_TAG, HISTOGRAM_TAG, PARENTS_TAG};
 use searchkit::requests::{Request, Seen, needs};
+use std::io;
 use testkit::files::put;
 use testkit::group::Tally;
 
@@ -56,7 +57,7 @@ fn cases(schedule: &mut [u8; 5000001]) -> Tally {
     Tally::new().with(longest).with(too_long)
 }
 
-pub fn run() {
+pub fn run(rt: &impl Print) -> io::Result<()> {
     let mut schedule = [0u8; 5000001];
-    cases(&mut schedule).print(b"longest schedule");
+    cases(&mut schedule).print(rt, b"longest schedule")
 }

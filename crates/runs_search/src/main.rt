@@ -2,6 +2,8 @@
 // under drawn schedules, whole and cut, and on fans and paths, and writes a line for each group: how
 // many cases it had, and how many went wrong. Crate `searchkit` has the inputs and what they must
 // give.
+#![tactic(auto)]
+
 mod calls;
 mod drawn;
 mod groups;
@@ -10,7 +12,9 @@ mod longest;
 mod rooms;
 mod tables;
 
-fn main() {
-    groups::run();
-    longest::run();
+use std::io;
+
+fn main(rt: HostRuntime) -> io::Result<()> {
+    groups::run(&rt)?;
+    longest::run(&rt)
 }

@@ -1,6 +1,7 @@
 // Good rows with damage. What writing them must answer is foretold here by a plain check; what is
 // written must be read back as the same rows.
 use crate::writing;
+use std::io;
 use testkit::group::Tally;
 use testkit::random::{below, leap, next};
 use testkit::reading;
@@ -122,7 +123,7 @@ fn rounds(number: usize) -> Tally {
     tally
 }
 
-pub fn run() {
-    rounds(0).print(b"damaged rows that are written");
-    rounds(11).print(b"damaged rows that are refused");
+pub fn run(rt: &impl Print) -> io::Result<()> {
+    rounds(0).print(rt, b"damaged rows that are written")?;
+    rounds(11).print(rt, b"damaged rows that are refused")
 }

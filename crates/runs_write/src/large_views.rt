@@ -2,6 +2,7 @@
 // of view where a list is one short. The last offset is 32,768; where the last row is empty, it starts
 // there too.
 use crate::views::{gives, is_out};
+use std::io;
 use testkit::group::Tally;
 use testkit::sample::after;
 use testkit::words::{prefix, put, stamp};
@@ -87,11 +88,11 @@ fn one_short(more: u16) -> Tally {
     out.with(still_in_view(&offsets, &targets, more))
 }
 
-pub fn run() {
+pub fn run(rt: &impl Print) -> io::Result<()> {
     in_view(0)
         .and(in_view(8))
-        .print(b"rows of the largest graph");
+        .print(rt, b"rows of the largest graph")?;
     one_short(0)
         .and(one_short(8))
-        .print(b"largest graph, one short");
+        .print(rt, b"largest graph, one short")
 }

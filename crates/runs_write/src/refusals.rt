@@ -1,6 +1,7 @@
 // Rows that the writer must turn down. Each case changes one offset and one target of good rows,
 // cuts the lists to given lengths, and sees that no byte is changed.
 use crate::writing::{Lengths, refuses, writes};
+use std::io;
 use testkit::files::put_words;
 use testkit::group::Tally;
 use testkit::words::put;
@@ -130,7 +131,7 @@ fn accepted() -> Tally {
     Tally::new().with(four).with(five).with(none)
 }
 
-pub fn run() {
-    table().print(b"writer's refusals");
-    accepted().print(b"written by hand");
+pub fn run(rt: &impl Print) -> io::Result<()> {
+    table().print(rt, b"writer's refusals")?;
+    accepted().print(rt, b"written by hand")
 }

@@ -3,6 +3,7 @@
 // the rows' lengths, so that only the bytes may be longer.
 use crate::drawn;
 use crate::writing::{Lengths, needs};
+use std::io;
 use testkit::group::Tally;
 use testkit::words::extra;
 
@@ -67,11 +68,11 @@ fn largest_is_right(short: u16, number: usize) -> bool {
     drawn::is_right(4096, 32768, lent, number)
 }
 
-pub fn run() {
-    combinations().print(b"lengths of the writer's lists");
+pub fn run(rt: &impl Print) -> io::Result<()> {
+    combinations().print(rt, b"lengths of the writer's lists")?;
     let largest = Tally::new()
         .with(largest_is_right(0, 11))
         .with(largest_is_right(1, 11))
         .with(largest_is_right(2, 20));
-    largest.print(b"largest rows, one list short");
+    largest.print(rt, b"largest rows, one list short")
 }

@@ -1,6 +1,7 @@
 // There and back: random rows are written and read, files with their records in any order are read
 // and written. Empty rows, parallel edges and edges to oneself come up by themselves.
 use crate::writing;
+use std::io;
 use testkit::group::Tally;
 use testkit::random::{below, leap, next};
 use testkit::reading;
@@ -157,6 +158,6 @@ fn rounds() -> Tally {
     tally
 }
 
-pub fn run() {
-    rounds().print(b"round trips");
+pub fn run(rt: &impl Print) -> io::Result<()> {
+    rounds().print(rt, b"round trips")
 }

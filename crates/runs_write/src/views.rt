@@ -1,5 +1,6 @@
 // The view of one vertex's edges: every row of random graphs, each condition of number 11, and
 // random lists of any form against a plain check.
+use std::io;
 use testkit::group::Tally;
 use testkit::random::{below, leap, next};
 use testkit::sample::{after, draw};
@@ -146,9 +147,11 @@ fn random_views() -> Tally {
     tally
 }
 
-pub fn run() {
-    random_rows(14).and(random_rows(15)).print(b"rows in view");
-    conditions().print(b"out of view");
-    given().print(b"in view");
-    random_views().print(b"random views");
+pub fn run(rt: &impl Print) -> io::Result<()> {
+    random_rows(14)
+        .and(random_rows(15))
+        .print(rt, b"rows in view")?;
+    conditions().print(rt, b"out of view")?;
+    given().print(rt, b"in view")?;
+    random_views().print(rt, b"random views")
 }

@@ -9,7 +9,7 @@ use testkit::words::prefix;
 const TAG: u8 = 9;
 
 // How much of each list is lent.
-#[derive(Drop)]
+#[derive(Clone, Copy)]
 pub struct Lengths {
     pub offsets: usize,
     pub targets: usize,

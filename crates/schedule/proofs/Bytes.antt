@@ -25,16 +25,16 @@ event_form kind w v hk hw hv =
     rw (first, second, third)
 
 -- the byte 8 × w: worker w moves once
-pub event-work : (w : ℕ) → w < 8 → event_of (8 * w) ≡ Work w
+pub event_work : (w : ℕ) → w < 8 → event_of (8 * w) ≡ Work w
 unfolding form_of
-event-work w h =
+event_work w h =
     let sum : 8 * w ≡ 64 * 0 + 8 * w + 0 = omega arith in
     ap event_of sum ∙ event_form 0 w 0 (omega arith) h (omega arith)
 
 -- the byte 64 × 3: close
-pub event-close : event_of 192 ≡ Close
+pub event_close : event_of 192 ≡ Close
 unfolding event_of form_of
-event-close = refl
+event_close = refl
 
 -- Two workers of one event.
 
@@ -63,9 +63,9 @@ form_apart kind w v =
     unlike false e = picked (eqb kind 1) (Split w v) (Unite w v) (eqb-false w v e) (eqb-false w v e)
 
 -- and in the event of every byte
-event-apart : (byte : ℕ) → Apart (event_of byte)
+event_apart : (byte : ℕ) → Apart (event_of byte)
 unfolding event_of
-event-apart byte = form_apart (byte / 64) (byte / 8 % 8) (byte % 8)
+event_apart byte = form_apart (byte / 64) (byte / 8 % 8) (byte % 8)
 
 -- Bytes that are not stray.
 
@@ -78,8 +78,8 @@ stray_none P byte bytes e =
     (not-false (within P (event_of byte)) none.0, none.1)
 
 -- two workers that are both there
-both-there : (P w v : ℕ) → (ltb w P && ltb v P) ≡ true → (w < P) × (v < P)
-both-there P w v e = let there = (and-eq-true_iff (ltb w P) (ltb v P)).0 e in (ltb-true w P there.0, ltb-true v P there.1)
+both_there : (P w v : ℕ) → (ltb w P && ltb v P) ≡ true → (w < P) × (v < P)
+both_there P w v e = let there = (and-eq-true_iff (ltb w P) (ltb v P)).0 e in (ltb-true w P there.0, ltb-true v P there.1)
 
 -- the event is one of the four kinds, its workers are there, and two of them are two
 abbrev pub Staffed : ℕ → Event → Type 0
@@ -89,12 +89,12 @@ Staffed P (Unite w v) = (w < P) × (v < P) × (w ≡ v → ⊥)
 Staffed P Close = Unit {0}
 Staffed P Malformed = ⊥
 
--- so it is for every well_formed byte
+-- so it is for every well-formed byte
 pub byte_staffed : (P byte : ℕ) (e : Event) → event_of byte ≡ e → within P e ≡ true → Staffed P e
 unfolding within Apart
 byte_staffed P byte (Work w) e h = ltb-true w P h
-byte_staffed P byte (Split w v) e h = let b = both-there P w v h in (b.0, b.1, subst Apart e (event-apart byte))
-byte_staffed P byte (Unite w v) e h = let b = both-there P w v h in (b.0, b.1, subst Apart e (event-apart byte))
+byte_staffed P byte (Split w v) e h = let b = both_there P w v h in (b.0, b.1, subst Apart e (event_apart byte))
+byte_staffed P byte (Unite w v) e h = let b = both_there P w v h in (b.0, b.1, subst Apart e (event_apart byte))
 byte_staffed P byte Close e h = tt
 byte_staffed P byte Malformed e h = let z : ◌≡◌ {A = ℕ} 0 1 = cc in omega arith
 
@@ -106,7 +106,7 @@ unfolding byte_of form_of
 byte_event (Work w) h = event_form 0 w 0 (omega arith) h (omega arith)
 byte_event (Split w v) h = event_form 1 w v (omega arith) h.0 h.1 ∙ rw (ne_eqb w v h.2)
 byte_event (Unite w v) h = event_form 2 w v (omega arith) h.0 h.1 ∙ rw (ne_eqb w v h.2)
-byte_event Close h = event-close
+byte_event Close h = event_close
 byte_event Malformed h = absurd h
 
 -- an event that is not malformed has this byte

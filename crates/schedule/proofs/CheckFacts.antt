@@ -38,9 +38,9 @@ module _ (bytes : List ℕ) (P : ℕ) where
 
     module _ (few : ltb max_workers P ≡ false) where
       -- a sheet over length
-      pub long-schedule : max_events < length bytes → bad_schedule ≡ schedule_number bytes P
+      pub long_schedule : max_events < length bytes → bad_schedule ≡ schedule_number bytes P
       unfolding schedule_number schedule_refusals first
-      long-schedule h = rw (ne_eqb P 0 some, few, lt-ltb max_events (length bytes) h)
+      long_schedule h = rw (ne_eqb P 0 some, few, lt-ltb max_events (length bytes) h)
 
       module _ (short : length bytes ≤ max_events) where
         -- a stray byte
@@ -49,6 +49,6 @@ module _ (bytes : List ℕ) (P : ℕ) where
         stray_schedule h = rw (ne_eqb P 0 some, few, le-ltb max_events (length bytes) short, h)
 
         -- nothing to refuse
-        pub taken-schedule : any_stray P bytes ≡ false → success ≡ schedule_number bytes P
+        pub taken_schedule : any_stray P bytes ≡ false → success ≡ schedule_number bytes P
         unfolding schedule_number schedule_refusals first
-        taken-schedule h = rw (ne_eqb P 0 some, few, le-ltb max_events (length bytes) short, h)
+        taken_schedule h = rw (ne_eqb P 0 some, few, le-ltb max_events (length bytes) short, h)

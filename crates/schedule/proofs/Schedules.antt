@@ -1,4 +1,4 @@
--- Facts about whole schedules that the crates above cite: what passes the tests 8 and 9, and the bytes of a well_formed schedule.
+-- Facts about whole schedules that the crates above cite: what passes the tests 8 and 9, and the bytes of a well-formed schedule.
 use mathlib.Core.Path.{◌≡◌, refl}
 use mathlib.Core.Bool.{true, false, ◌||◌}
 use mathlib.Core.List.{List, [], ◌∷◌}
@@ -9,41 +9,41 @@ use lib.ListN.{length, get_or, take}
 use borrow.Author.Tests.{ltb-false, eqb-false}
 use Rattle.numbers.specs.Numbers.{max_workers, max_events, bad_workers, bad_schedule}
 use Rattle.numbers.specs.Refusals.{◌gives◌, first}
-use Rattle.numbers.proofs.First.{Positive, first-passed}
+use Rattle.numbers.proofs.First.{Positive, first_passed}
 use Rattle.lists.proofs.Or.{or_none}
 use Rattle.schedule.specs.Events.{event_of, within}
 use Rattle.schedule.specs.Check.{any_stray, schedule_refusals}
 use Rattle.schedule.proofs.Bytes.{stray_none}
 
 -- the numbers of a schedule's tests are positive
-pub positive-schedule : (schedule : List ℕ) (P : ℕ) → Positive (schedule_refusals schedule P)
+pub positive_schedule : (schedule : List ℕ) (P : ℕ) → Positive (schedule_refusals schedule P)
 unfolding schedule_refusals
-positive-schedule schedule P = omega arith
+positive_schedule schedule P = omega arith
 
 -- a schedule that neither 8 nor 9 refuses
 pub record WellFormed (schedule : List ℕ) (P : ℕ) : Type 0 where
-  pub some-worker : 1 ≤ P
-  pub few-workers : P ≤ max_workers
-  pub few-events : length schedule ≤ max_events
+  pub some_worker : 1 ≤ P
+  pub few_workers : P ≤ max_workers
+  pub few_events : length schedule ≤ max_events
   pub formed : any_stray P schedule ≡ false
 
--- is well_formed
-pub schedule-passed : (schedule : List ℕ) (P : ℕ) → first (schedule_refusals schedule P) ≡ 0 → WellFormed schedule P
+-- is well-formed
+pub schedule_passed : (schedule : List ℕ) (P : ℕ) → first (schedule_refusals schedule P) ≡ 0 → WellFormed schedule P
 unfolding schedule_refusals
-schedule-passed schedule P e =
+schedule_passed schedule P e =
     let long = ltb max_events (length schedule) in
-    let p = first-passed (eqb P 0 || ltb max_workers P) bad_workers ((long || any_stray P schedule) gives bad_schedule ∷ []) (omega arith) e in
-    let q = first-passed (long || any_stray P schedule) bad_schedule [] (omega arith) p.1 in
+    let p = first_passed (eqb P 0 || ltb max_workers P) bad_workers ((long || any_stray P schedule) gives bad_schedule ∷ []) (omega arith) e in
+    let q = first_passed (long || any_stray P schedule) bad_schedule [] (omega arith) p.1 in
     let workers = or_none (eqb P 0) (ltb max_workers P) p.0 in
     let bytes = or_none long (any_stray P schedule) q.0 in
     record {
-      some-worker = omega (arith, eqb-false P 0 workers.0);
-      few-workers = ltb-false max_workers P workers.1;
-      few-events = ltb-false max_events (length schedule) bytes.0;
+      some_worker = omega (arith, eqb-false P 0 workers.0);
+      few_workers = ltb-false max_workers P workers.1;
+      few_events = ltb-false max_events (length schedule) bytes.0;
       formed = bytes.1;
     }
 
--- the first bytes of a well_formed schedule are well_formed
+-- the first bytes of a well-formed schedule are well-formed
 pub stray_take : (P k : ℕ) (schedule : List ℕ) → any_stray P schedule ≡ false → any_stray P (take k schedule) ≡ false
 unfolding any_stray
 stray_take P zero schedule h = refl

@@ -53,13 +53,13 @@ event_in (suc (suc (suc zero))) w v = Close
 event_in (suc (suc (suc (suc kind)))) w v = Malformed
 
 -- the entry of an event says that event
-pub entry-event : (e : Event) {kind w v : ℕ} → kind ≡ get_or (entry_of e) 0 0 → w ≡ get_or (entry_of e) 1 0 → v ≡ get_or (entry_of e) 2 0 → event_in kind w v ≡ e
+pub entry_event : (e : Event) {kind w v : ℕ} → kind ≡ get_or (entry_of e) 0 0 → w ≡ get_or (entry_of e) 1 0 → v ≡ get_or (entry_of e) 2 0 → event_in kind w v ≡ e
 unfolding entry_of
-entry-event (Work w) p q r = rw (p, q)
-entry-event (Split w v) p q r = rw (p, q, r)
-entry-event (Unite w v) p q r = rw (p, q, r)
-entry-event Close p q r = rw p
-entry-event Malformed p q r = rw p
+entry_event (Work w) p q r = rw (p, q)
+entry_event (Split w v) p q r = rw (p, q, r)
+entry_event (Unite w v) p q r = rw (p, q, r)
+entry_event Close p q r = rw p
+entry_event Malformed p q r = rw p
 
 -- a kind past the four is malformed
 pub past_kinds : (kind w v : ℕ) → 4 ≤ kind → event_in kind w v ≡ Malformed
@@ -70,11 +70,11 @@ past_kinds (suc (suc (suc zero))) w v h = absurd (omega arith)
 past_kinds (suc (suc (suc (suc kind)))) w v h = refl
 
 -- the three tests of an entry tell whether its event is one of the four kinds and its workers are there
-pub entry-within : (P : ℕ) (e : Event) {kind w v : ℕ} → 1 ≤ P → kind ≡ get_or (entry_of e) 0 0 → w ≡ get_or (entry_of e) 1 0 → v ≡ get_or (entry_of e) 2 0
+pub entry_within : (P : ℕ) (e : Event) {kind w v : ℕ} → 1 ≤ P → kind ≡ get_or (entry_of e) 0 0 → w ≡ get_or (entry_of e) 1 0 → v ≡ get_or (entry_of e) 2 0
     → ((not (eqb kind 4) && ltb w P) && ltb v P) ≡ within P e
 unfolding entry_of within
-entry-within P (Work w) some p q r = rw (p, q, r, lt-ltb 0 P some, and-true)
-entry-within P (Split w v) some p q r = rw (p, q, r)
-entry-within P (Unite w v) some p q r = rw (p, q, r)
-entry-within P Close some p q r = rw (p, q, r, lt-ltb 0 P some)
-entry-within P Malformed some p q r = rw p
+entry_within P (Work w) some p q r = rw (p, q, r, lt-ltb 0 P some, and-true)
+entry_within P (Split w v) some p q r = rw (p, q, r)
+entry_within P (Unite w v) some p q r = rw (p, q, r)
+entry_within P Close some p q r = rw (p, q, r, lt-ltb 0 P some)
+entry_within P Malformed some p q r = rw p

@@ -1,6 +1,8 @@
 // A schedule (document 01: event sheet) is a list of event bytes. `decode` says what event a byte is;
 // `look_up` says it by a table that the caller lends, and the engine plays by that.
 // `schedule_number` says whether a schedule is taken. All go by one table, module `entries`.
+#![tactic(auto)]
+
 ghost use Rattle.std.specs.Prelude.{◌≡◌, ◌≤◌, ◌<◌, get_or};
 ghost use Rattle.schedule.specs.Events.{event_of, within};
 ghost use Rattle.schedule.specs.Table.{entry_of, byte_table, Fits};
@@ -13,7 +15,7 @@ mod entries;
 pub use entries::byte_table;
 
 // An event, by document 01's kinds 0 to 3; `Malformed` is a byte that is of none of their forms.
-#[derive(Drop)]
+#[derive(Clone, Copy)]
 pub enum Event {
     Work { worker: usize },
     Split { taker: usize, giver: usize },
@@ -125,10 +127,12 @@ fn any_stray(bytes: &[u8], workers: usize) -> bool
 pub fn schedule_number(bytes: &[u8], workers: usize) -> usize
     ensures { result ≡ schedule_number bytes.now workers }
 {
-    if workers == 0 || numbers::MAX_WORKERS < workers {
+    let many = numbers::MAX_WORKERS < workers;
+    if workers == 0 || many {
         return numbers::BAD_WORKERS;
     }
-    if numbers::MAX_EVENTS < bytes.len() || any_stray(bytes, workers) {
+    let long = numbers::MAX_EVENTS < bytes.len();
+    if long || any_stray(bytes, workers) {
         return numbers::BAD_SCHEDULE;
     }
     numbers::SUCCESS

@@ -8,9 +8,9 @@ use lib.ListN.{length, take}
 use lib.Seq.{take-length}
 use Rattle.numbers.specs.Numbers.{unset, success, unfinished}
 use Rattle.lists.specs.Lists.{elem}
-use Rattle.lists.proofs.Overlay.{overlay-front}
+use Rattle.lists.proofs.Overlay.{overlay_front}
 use Rattle.graph.specs.File.{vertex_count, graph_of}
-use Rattle.graph.proofs.FileLists.{length-graph}
+use Rattle.graph.proofs.FileLists.{length_graph}
 use Rattle.model.specs.State.{State}
 use Rattle.model.specs.Play.{Run, play, state_at}
 use Rattle.model.specs.Histogram.{recount, counts_at, Counts}
@@ -21,19 +21,19 @@ use Rattle.engine.specs.declared.Answer.{Answer}
 use Rattle.model.specs.Words.{option_of, labels_of, labels_in}
 use Rattle.search.specs.Promise.{search_exit, Kept}
 use Rattle.model.proofs.WordFacts.{laid_back}
-use Rattle.model.proofs.HistogramFacts.{recount-long}
+use Rattle.model.proofs.HistogramFacts.{recount_long}
 
 -- Numbers of a run.
 
 -- 0 only where it is finished
-finished-zero : (b : Bool) {k : ℕ} → k ≡ cond b success unfinished → k ≡ success → b ≡ true
-finished-zero true e z = refl
-finished-zero false e z = absurd (omega arith)
+finished_zero : (b : Bool) {k : ℕ} → k ≡ cond b success unfinished → k ≡ success → b ≡ true
+finished_zero true e z = refl
+finished_zero false e z = absurd (omega arith)
 
 -- 21 only where it isn't
-unfinished-spent : (b : Bool) {k : ℕ} → k ≡ cond b success unfinished → k ≡ unfinished → b ≡ false
-unfinished-spent true e z = absurd (omega arith)
-unfinished-spent false e z = refl
+unfinished_spent : (b : Bool) {k : ℕ} → k ≡ cond b success unfinished → k ≡ unfinished → b ≡ false
+unfinished_spent true e z = absurd (omega arith)
+unfinished_spent false e z = refl
 
 module _ (file : List ℕ) (source P : ℕ) (schedule : List ℕ) (lent : Lent) where
   -- the file's graph
@@ -83,13 +83,13 @@ module _ (file : List ℕ) (source P : ℕ) (schedule : List ℕ) (lent : Lent) 
       layered = ap (λ (o : Outcome). o.answer.layer) (e ∙ call_played file source P schedule lent played)
 
       -- the state after all bytes is the run's
-      all-bytes : state_at g source P schedule (length schedule) ≡ run.state
+      all_bytes : state_at g source P schedule (length schedule) ≡ run.state
       unfolding state_at
-      all-bytes = ap (λ (l : List ℕ). (play g source P l).state) (take-length schedule)
+      all_bytes = ap (λ (l : List ℕ). (play g source P l).state) (take-length schedule)
 
       -- so what holds at every moment holds at the end
       fitting : Fitting g P run.state
-      fitting = subst (λ (s : State). Fitting g P s) all-bytes (demanded.fitting (length schedule))
+      fitting = subst (λ (s : State). Fitting g P s) all_bytes (demanded.fitting (length schedule))
 
       -- a label below n is below 65,535
       low : {x : ℕ} → x < length g → x < unset
@@ -103,16 +103,16 @@ module _ (file : List ℕ) (source P : ℕ) (schedule : List ℕ) (lent : Lent) 
           let x = run.state.labels in
           let lists = e ∙ call_played file source P schedule lent played in
           let far = ap (λ (o : Outcome). map option_of (take n o.lent.distances)) lists
-          ∙ laid_back n x.distances lent.distances (fitting.distances-all ∙ length-graph file) (λ v d h. low (fitting.distances-below v d h)) in
+          ∙ laid_back n x.distances lent.distances (fitting.distances_all ∙ length_graph file) (λ v d h. low (fitting.distances_below v d h)) in
           let near = ap (λ (o : Outcome). map option_of (take n o.lent.parents)) lists
-          ∙ laid_back n x.parents lent.parents (fitting.parents-all ∙ length-graph file) (λ v d h. low (fitting.parents-below v d h)) in
+          ∙ laid_back n x.parents lent.parents (fitting.parents_all ∙ length_graph file) (λ v d h. low (fitting.parents_below v d h)) in
           λ i. record { distances = far i; parents = near i }
 
       -- the counts as kept over all bytes tell of the run's labels
       told : Counts run.state.labels.distances run.state.layer (counts_at g source P schedule (length schedule))
       told =
-          subst (λ (s : State). Counts s.labels.distances s.layer (counts_at g source P schedule (length schedule))) all-bytes
-          (demanded.counts-told (length schedule))
+          subst (λ (s : State). Counts s.labels.distances s.layer (counts_at g source P schedule (length schedule))) all_bytes
+          (demanded.counts_told (length schedule))
 
       -- and its list holds them
       counts : take (vertex_count file) after.histogram ≡ counts_at g source P schedule (length schedule)
@@ -120,42 +120,42 @@ module _ (file : List ℕ) (source P : ℕ) (schedule : List ℕ) (lent : Lent) 
           let n = vertex_count file in
           let far = run.state.labels.distances in
           ap (λ (o : Outcome). take n o.lent.histogram) (e ∙ call_played file source P schedule lent played)
-          ∙ overlay-front (recount far) lent.histogram n (recount-long far ∙ fitting.distances-all ∙ length-graph file)
+          ∙ overlay_front (recount far) lent.histogram n (recount_long far ∙ fitting.distances_all ∙ length_graph file)
           ∙ sym told.recounted
 
     -- 0 is the number of a call that plays
-    pub success-plays : r.number ≡ success → plays r.number ≡ true
+    pub success_plays : r.number ≡ success → plays r.number ≡ true
     unfolding plays elem
-    success-plays z = ap plays z
+    success_plays z = ap plays z
 
     -- so is 21
-    unfinished-plays : r.number ≡ unfinished → plays r.number ≡ true
+    unfinished_plays : r.number ≡ unfinished → plays r.number ≡ true
     unfolding plays elem
-    unfinished-plays z = ap plays z
+    unfinished_plays z = ap plays z
 
     -- with 0 the run is finished
     whole : (z : r.number ≡ success) → run.state.finished ≡ true
-    whole z = finished-zero run.state.finished (decided (success-plays z)) z
+    whole z = finished_zero run.state.finished (decided (success_plays z)) z
 
     -- with 21 it isn't
     partial : (z : r.number ≡ unfinished) → run.state.finished ≡ false
-    partial z = unfinished-spent run.state.finished (decided (unfinished-plays z)) z
+    partial z = unfinished_spent run.state.finished (decided (unfinished_plays z)) z
 
     -- all that is promised
     pub call_keeps : Kept file source P schedule lent r after
     call_keeps = record {
       demand = demanded;
-      spent = λ z. used (unfinished-plays z) ∙ (demanded (unfinished-plays z)).used-spent (partial z);
-      not-finished = partial;
-      finished = λ z. rw (used (success-plays z)) ((demanded (success-plays z)).used-finished (whole z));
+      spent = λ z. used (unfinished_plays z) ∙ (demanded (unfinished_plays z)).used_spent (partial z);
+      not_finished = partial;
+      finished = λ z. rw (used (success_plays z)) ((demanded (success_plays z)).used_finished (whole z));
       layer = layered;
       counted = λ p. rw (effective p, used p) (demanded p).counted;
       bounded = rw (ap (λ (o : Outcome). o.answer.effective) e) (call_effective file source P schedule lent);
-      below = λ z. rw (effective (unfinished-plays z)) ((demanded (unfinished-plays z)).below (partial z));
-      enough-rounds = λ passed h. answered ∙ call_rounds file source P schedule lent passed h;
-      final = λ p v d h. (demanded p).final (length schedule) v d (rw (all-bytes p, ← (labels p)) h);
-      right_result = λ z. rw (labels (success-plays z)) ((demanded (success-plays z)).right_result (whole z));
-      link_by_link = λ z. rw (labels (success-plays z), ← (length-graph file)) ((demanded (success-plays z)).link_by_link (whole z));
-      counts-told = λ p. rw (labels p, layered p, counts p) (told p);
-      counts-kept = counts;
+      below = λ z. rw (effective (unfinished_plays z)) ((demanded (unfinished_plays z)).below (partial z));
+      enough_rounds = λ passed h. answered ∙ call_rounds file source P schedule lent passed h;
+      final = λ p v d h. (demanded p).final (length schedule) v d (rw (all_bytes p, ← (labels p)) h);
+      right_result = λ z. rw (labels (success_plays z)) ((demanded (success_plays z)).right_result (whole z));
+      link_by_link = λ z. rw (labels (success_plays z), ← (length_graph file)) ((demanded (success_plays z)).link_by_link (whole z));
+      counts_told = λ p. rw (labels p, layered p, counts p) (told p);
+      counts_kept = counts;
     }

@@ -20,22 +20,22 @@ module _ {n m source P : ℕ} {schedule offsets targets distances parents histog
   pub play_runnable : Runnable source P schedule (take (n + 1) offsets) (take m targets) (take n distances) (take n parents) (take n histogram)
       (take (node_places n P) left) (take (node_places n P) right) (take (node_places n P) values)
   play_runnable =
-      let some-distances = length-take-le n distances p.distances-there in
-      let some-parents = length-take-le n parents p.parents-there in
-      let some-counts = length-take-le n histogram p.histogram-there in
+      let some-distances = length-take-le n distances p.distances_there in
+      let some-parents = length-take-le n parents p.parents_there in
+      let some-counts = length-take-le n histogram p.histogram_there in
       let some_left = length-take-le (node_places n P) left p.left_there in
       let some_right = length-take-le (node_places n P) right p.right_there in
-      let some-values = length-take-le (node_places n P) values p.values-there in
+      let some-values = length-take-le (node_places n P) values p.values_there in
       record {
         rows = rw some-distances p.rows;
         accepted = p.accepted;
-        few-events = p.few-events;
+        few_events = p.few_events;
         sized = record {
           few-vertices = rw some-distances p.rows.few-vertices;
-          some-worker = p.accepted.some-worker;
-          few-workers = p.accepted.few-workers;
-          parents-all = some-parents ∙ sym some-distances;
-          histogram-all = some-counts ∙ sym some-distances;
+          some_worker = p.accepted.some_worker;
+          few_workers = p.accepted.few_workers;
+          parents_all = some-parents ∙ sym some-distances;
+          histogram_all = some-counts ∙ sym some-distances;
           nodes = some_left ∙ ap (λ (k : ℕ). node_places k P) (sym some-distances);
           wide = omega arith;
           numbered = omega arith;
@@ -54,10 +54,10 @@ module _ {n m source P : ℕ} {schedule offsets targets distances parents histog
       (distances' ++ drop n distances) (parents' ++ drop n parents) (histogram' ++ drop n histogram) left'' right'' values'' answer
   play-done left' right' values' ran d q h l r k clear-left clear-right clear-values = record {
     told = ran.told;
-    labelled = part_laid n distances p.distances-there d ran.distances;
-    named = part_laid n parents p.parents-there q ran.parents;
-    counted = part_laid n histogram p.histogram-there h ran.histogram;
+    labelled = part_laid n distances p.distances_there d ran.distances;
+    named = part_laid n parents p.parents_there q ran.parents;
+    counted = part_laid n histogram p.histogram_there h ran.histogram;
     left_clear = part_cleared (node_places n P) left left' p.left_there l clear-left;
     right_clear = part_cleared (node_places n P) right right' p.right_there r clear-right;
-    values_clear = part_cleared (node_places n P) values values' p.values-there k clear-values;
+    values_clear = part_cleared (node_places n P) values values' p.values_there k clear-values;
   }

@@ -22,15 +22,15 @@ pub record Playable (n m source P : ℕ)
     (schedule offsets targets distances parents histogram left right values : List ℕ) : Type 0 where
   pub rows : GraphRows (take (n + 1) offsets) (take m targets) n
   pub accepted : Accepted (rows_of (take (n + 1) offsets) (take m targets)) source P schedule
-  pub few-events : length schedule ≤ max_events
-  pub offsets-there : n + 1 ≤ length offsets
-  pub targets-there : m ≤ length targets
-  pub distances-there : n ≤ length distances
-  pub parents-there : n ≤ length parents
-  pub histogram-there : n ≤ length histogram
+  pub few_events : length schedule ≤ max_events
+  pub offsets_there : n + 1 ≤ length offsets
+  pub targets_there : m ≤ length targets
+  pub distances_there : n ≤ length distances
+  pub parents_there : n ≤ length parents
+  pub histogram_there : n ≤ length histogram
   pub left_there : node_places n P ≤ length left
   pub right_there : node_places n P ≤ length right
-  pub values-there : node_places n P ≤ length values
+  pub values_there : node_places n P ≤ length values
 
 -- what `play` promises: labels and counts in the first places, the nodes' first places 0, the others as they were
 pub record PlayedOut (r : Run) (places : ℕ)

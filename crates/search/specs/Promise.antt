@@ -45,7 +45,7 @@ module _ (file : List ℕ) (source P : ℕ) (schedule : List ℕ) (lent : call.L
     pub demand : call.plays r.number ≡ true → Demand (graph_of file) source P schedule
     -- "with 21 all of them": 21 only after the whole schedule is played and the search isn't finished (§6.9)
     pub spent : r.number ≡ unfinished → r.used ≡ length schedule
-    pub not-finished : r.number ≡ unfinished → (play (graph_of file) source P schedule).state.finished ≡ false
+    pub not_finished : r.number ≡ unfinished → (play (graph_of file) source P schedule).state.finished ≡ false
     -- 0 only with a finishing event, the last one used (§6.9)
     pub finished : r.number ≡ success → Finisher (graph_of file) source P schedule r.used
     -- d is the run's (§6.10)
@@ -58,7 +58,7 @@ module _ (file : List ℕ) (source P : ℕ) (schedule : List ℕ) (lent : call.L
     pub bounded : r.effective ≤ event_bound (graph_of file) P
     pub below : r.number ≡ unfinished → r.effective < event_bound (graph_of file) P
     -- that many full rounds finish: with an input that passes every test the number is then 0 (§7.5)
-    pub enough-rounds : first (call.input_refusals file source P schedule lent) ≡ success
+    pub enough_rounds : first (call.input_refusals file source P schedule lent) ≡ success
         → event_bound (graph_of file) P ≤ rounds P schedule
         → r.number ≡ success
     -- "Written distances are final": what stands in the caller's list is the distance, with 0 and 21 alike (§7.3)
@@ -68,15 +68,15 @@ module _ (file : List ℕ) (source P : ℕ) (schedule : List ℕ) (lent : call.L
     -- with 0 the caller's lists hold the right result .. (§7.6)
     pub right_result : r.number ≡ success
         → RightResult (graph_of file) source (labels_in (vertex_count file) after.distances after.parents)
-    -- .. as a link_by_link run leaves it, with some order of each layer's links (§7.8)
+    -- .. as a link-by-link run leaves it, with some order of each layer's links (§7.8)
     pub link_by_link : r.number ≡ success
         → Serial (graph_of file) 0 (opening_labels (vertex_count file) source)
         (labels_in (vertex_count file) after.distances after.parents)
     -- the caller's counts are a recount of the caller's distances, with 0 and 21 alike, and tell what counts tell ..
     -- (§7.9)
-    pub counts-told : call.plays r.number ≡ true
+    pub counts_told : call.plays r.number ≡ true
         → Counts (labels_in (vertex_count file) after.distances after.parents).distances r.layer
         (take (vertex_count file) after.histogram)
     -- .. and they are the counts as kept over the bytes of the schedule (§7.9)
-    pub counts-kept : call.plays r.number ≡ true
+    pub counts_kept : call.plays r.number ≡ true
         → take (vertex_count file) after.histogram ≡ counts_at (graph_of file) source P schedule (length schedule)

@@ -1,12 +1,14 @@
 // The search under a schedule: up to eight workers share one layered breadth-first search, in the
 // order that the schedule's event bytes say. `search` is the outside call; it assumes nothing.
+#![tactic(auto)]
+
 mod call;
 
 pub use call::search;
 pub use engine::Answer;
 
 // The lengths of the lent lists.
-#[derive(Drop)]
+#[derive(Clone, Copy)]
 pub struct Lengths {
     pub offsets: usize,
     pub targets: usize,

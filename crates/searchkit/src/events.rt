@@ -23,14 +23,14 @@ pub const MIXED: u16 = 5;
 pub const CLOSE: u8 = 192;
 
 // What draws the bytes: its seed, and the place in the full round that was begun, or 0.
-#[derive(Drop)]
+#[derive(Clone, Copy)]
 struct Pen {
     seed: u64,
     place: u16,
 }
 
 // A byte, and the pen after it.
-#[derive(Drop)]
+#[derive(Clone, Copy)]
 struct Drawn {
     byte: u8,
     pen: Pen,

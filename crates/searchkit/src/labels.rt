@@ -7,7 +7,7 @@ use testkit::words::at;
 pub const UNSET: u16 = 65535;
 
 // What the labels are judged by: n, the source, the layer d, and whether the search was finished.
-#[derive(Drop)]
+#[derive(Clone, Copy)]
 pub struct View {
     pub vertices: u16,
     pub source: u16,
@@ -16,7 +16,7 @@ pub struct View {
 }
 
 // Whether all labels so far are right, and a number made of all parents so far.
-#[derive(Drop)]
+#[derive(Clone, Copy)]
 pub struct Judged {
     pub right: bool,
     pub digest: u64,

@@ -2,6 +2,8 @@
 // schedules, a plain queue search, comparisons of lists, labels and counts, and the tables of cases.
 //
 // Every read and write of a list is guarded, so that no function here requires anything.
+#![tactic(auto)]
+
 pub mod base;
 pub mod beginnings;
 pub mod bench;

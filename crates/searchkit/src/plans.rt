@@ -7,7 +7,7 @@ use crate::{labels, queue};
 use testkit::sample::file_length;
 
 // What is drawn: the graph's size, the source, the workers, the schedule's length and its mixture.
-#[derive(Drop)]
+#[derive(Clone, Copy)]
 pub struct Plan {
     pub vertices: u16,
     pub edges: u16,

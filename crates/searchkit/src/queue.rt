@@ -7,7 +7,7 @@ const UNSET: u16 = 65535;
 
 // How far a search is: the place in the queue of the vertex that is looked at, the queue's end, the
 // next edge, and how many edges were looked at.
-#[derive(Drop)]
+#[derive(Clone, Copy)]
 struct Walk {
     head: u16,
     tail: u16,
@@ -16,7 +16,7 @@ struct Walk {
 }
 
 // What the source reaches: how many vertices and edges, and the largest distance.
-#[derive(Drop)]
+#[derive(Clone, Copy)]
 pub struct Reach {
     pub vertices: u16,
     pub edges: u16,

@@ -2,7 +2,7 @@
 use crate::counts::places;
 
 // How much of each list is lent.
-#[derive(Drop)]
+#[derive(Clone, Copy)]
 pub struct Lengths {
     pub offsets: usize,
     pub targets: usize,
@@ -17,7 +17,7 @@ pub struct Lengths {
 
 // What is asked of a call: the source, the workers, how much is lent of the file, the schedule and
 // the lists; and n and m of the file.
-#[derive(Drop)]
+#[derive(Clone, Copy)]
 pub struct Request {
     pub source: u16,
     pub workers: u16,
@@ -47,7 +47,7 @@ pub fn needs(vertices: u16, edges: u16, workers: u16, more: u16) -> Lengths {
 }
 
 // An answer: number, events used, effective events, d.
-#[derive(Drop)]
+#[derive(Clone, Copy)]
 pub struct Seen {
     pub number: usize,
     pub used: usize,
@@ -56,14 +56,14 @@ pub struct Seen {
 }
 
 // What a call answered, and whether it left the lists as it must.
-#[derive(Drop)]
+#[derive(Clone, Copy)]
 pub struct Outcome {
     pub seen: Seen,
     pub right: bool,
 }
 
 // A case: what was answered, a number made of its labels, and whether all was as it must be.
-#[derive(Drop)]
+#[derive(Clone, Copy)]
 pub struct Report {
     pub seen: Seen,
     pub digest: u64,

@@ -1,8 +1,8 @@
 // A count of the cases of a group, and the line that a program writes for it.
-use libc::STDOUT_FILENO;
+use std::io;
 
 // How many cases were tried, and how many of them went wrong.
-#[derive(Drop)]
+#[derive(Clone, Copy)]
 pub struct Tally {
     pub cases: u64,
     pub wrong: u64,
@@ -37,12 +37,9 @@ impl Tally {
     }
 
     // The group's line: its name, then "N cases M wrong".
-    pub fn print(self, name: &[u8]) {
-        io::write_all(STDOUT_FILENO, name);
-        io::write_all(STDOUT_FILENO, b" ");
-        io::print_decimal(STDOUT_FILENO, self.cases);
-        io::write_all(STDOUT_FILENO, b" cases ");
-        io::print_decimal(STDOUT_FILENO, self.wrong);
-        io::write_all(STDOUT_FILENO, b" wrong\n");
+    pub fn print(self, rt: &impl Print, name: &[u8]) -> io::Result<()> {
+        let Tally { cases, wrong } = self;
+        rt.write_all(name)?;
+        println!(rt; " {cases} cases {wrong} wrong")
     }
 }

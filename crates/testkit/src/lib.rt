@@ -3,6 +3,8 @@
 //
 // Every read and write of a list is guarded, so that no function here requires anything. Vertices,
 // edges and records are numbers of 16 bits; places in a file and lengths are of type `usize`.
+#![tactic(auto)]
+
 pub mod files;
 pub mod group;
 pub mod random;

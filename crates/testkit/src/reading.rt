@@ -13,7 +13,7 @@ const TARGETS_TAG: u16 = 12345;
 const MARKS_TAG: u16 = 99;
 
 // How much of each list is lent.
-#[derive(Drop)]
+#[derive(Clone, Copy)]
 pub struct Lengths {
     pub file: usize,
     pub offsets: usize,

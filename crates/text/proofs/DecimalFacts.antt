@@ -43,9 +43,9 @@ fewest_tenth x (suc k) h =
     (omega arith, tenth_below (suc (suc k)) x h.1, λ (l : 1 < suc (suc k)). rw (sub_two k) (tenth_above (suc k) x above))
 
 -- a number of one digit
-one-digit : (k x : ℕ) → x < 10 → last_digits 10 1 x ≡ decimal_in (suc k) x
+one_digit : (k x : ℕ) → x < 10 → last_digits 10 1 x ≡ decimal_in (suc k) x
 unfolding decimal_in
-one-digit k x h = rw (lt-ltb x 10 h, mod-eq_of_lt h) (ap (λ (g : ℕ). g ∷ []) (glyph_below x h))
+one_digit k x h = rw (lt-ltb x 10 h, mod-eq_of_lt h) (ap (λ (g : ℕ). g ∷ []) (glyph_below x h))
 
 -- a number of more digits
 more_digits : (k r x : ℕ) → 10 ≤ x → last_digits 10 r (x / 10) ≡ decimal_in k (x / 10) → last_digits 10 (suc r) x ≡ decimal_in (suc k) x
@@ -58,7 +58,7 @@ more_digits k r x h e =
 digits_decimal_in : (k r x : ℕ) → IsDigitCount 10 1 x r → r ≤ k → last_digits 10 r x ≡ decimal_in k x
 digits_decimal_in zero r x h l = absurd (omega arith)
 digits_decimal_in (suc k) zero x h l = absurd (omega arith)
-digits_decimal_in (suc k) (suc zero) x h l = one-digit k x (omega (arith, pow_one))
+digits_decimal_in (suc k) (suc zero) x h l = one_digit k x (omega (arith, pow_one))
 digits_decimal_in (suc k) (suc (suc r)) x h l =
     more_digits k (suc r) x (omega (arith, pow_more r, rw (sub_two r) at (h.2 (omega arith))))
     (digits_decimal_in k (suc r) (x / 10) (fewest_tenth x r h) (omega arith))
@@ -92,9 +92,9 @@ decimal_in_most zero x = omega arith
 decimal_in_most (suc k) x = digits_length (ltb x 10) x k (suc k) (omega arith) (λ (e : ltb x 10 ≡ false). omega (arith, decimal_in_most k (x / 10)))
 
 -- at most 20 digits
-pub decimal-most : (x : ℕ) → length (decimal x) ≤ 20
+pub decimal_most : (x : ℕ) → length (decimal x) ≤ 20
 unfolding decimal
-decimal-most x = decimal_in_most 20 x
+decimal_most x = decimal_in_most 20 x
 
 -- a number below a power of 10 has no more digits than that, whatever is asked for
 decimal_in_short : (j k x : ℕ) → x < 10 ^ suc k → length (decimal_in j x) ≤ suc k
@@ -107,7 +107,7 @@ decimal_in_short (suc j) (suc k) x h =
     (λ (e : ltb x 10 ≡ false). omega (arith, decimal_in_short j k (x / 10) (tenth_below (suc k) x h)))
 
 -- a number below a power of 10 has no more digits than that
-pub decimal-short : (k x : ℕ) → x < 10 ^ k → 1 ≤ k → length (decimal x) ≤ k
+pub decimal_short : (k x : ℕ) → x < 10 ^ k → 1 ≤ k → length (decimal x) ≤ k
 unfolding decimal
-decimal-short zero x h l = absurd (omega arith)
-decimal-short (suc k) x h l = decimal_in_short 20 k x h
+decimal_short zero x h l = absurd (omega arith)
+decimal_short (suc k) x h l = decimal_in_short 20 k x h

@@ -5,7 +5,7 @@ use Prim.Native.Nat.{ℕ, ◌≤◌, ◌<◌}
 use native.Mathlib.Omega.{arith}
 use lib.ListN.{length}
 use borrow.Author.Tests.{le-ltb, lt-ltb}
-use Rattle.lists.proofs.Overlay.{overlay-long}
+use Rattle.lists.proofs.Overlay.{overlay_long}
 use Rattle.text.specs.Output.{respond_exit, respond_by}
 use Rattle.text.specs.Printed.{Printed}
 
@@ -21,5 +21,5 @@ module _ (places : ℕ) (text output : List ℕ) where
   unfolding respond_by
   respond_printed room p = (
     rw (le-ltb (length output) places room) (λ i. record { count = p.used i; output = p.laid i }),
-    rw (p.laid, p.used) (overlay-long text output),
+    rw (p.laid, p.used) (overlay_long text output),
   )

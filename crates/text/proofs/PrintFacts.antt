@@ -7,7 +7,7 @@ use native.Mathlib.Omega.{arith}
 use lib.ListN.{length, get_or, set, take, length-append}
 use lib.Seq.{take_at, take-suc, get_or_at}
 use Rattle.lists.specs.Lists.{overlay}
-use Rattle.lists.proofs.Overlay.{overlay_store, overlay-all, length-overlay}
+use Rattle.lists.proofs.Overlay.{overlay_store, overlay_all, length_overlay}
 use Rattle.text.specs.Printed.{Printed, Prints}
 
 -- nothing is printed yet
@@ -34,11 +34,11 @@ pub prints_byte : (output : List ℕ) (at byte : ℕ) {at' : ℕ} → at < lengt
 prints_byte output at byte room next old text p =
     let new : List ℕ = text ++ (byte ∷ []) in
     let size : length new ≡ at + 1 = length-append text (byte ∷ []) ∙ ap (λ (n : ℕ). n + 1) (sym p.used) in
-    let same : length output ≡ length old = ap length p.laid ∙ length-overlay text old p.room in
+    let same : length output ≡ length old = ap length p.laid ∙ length_overlay text old p.room in
     let front : text ≡ take at new = sym (take_at text (byte ∷ []) at (sym p.used)) in
     let before : output ≡ overlay (take at new) old = p.laid ∙ ap (λ (t : List ℕ). overlay t old) front in
     let there : byte ≡ get_or new at 0 = sym (get_or_at text byte [] 0 at (sym p.used)) in record {
-      laid = overlay_store new old before there (omega arith) (omega arith) ∙ overlay-all new old (at + 1) (omega arith);
+      laid = overlay_store new old before there (omega arith) (omega arith) ∙ overlay_all new old (at + 1) (omega arith);
       used = next ∙ sym size;
       room = omega arith;
     }

@@ -9,7 +9,7 @@ use lib.ListN.{length, replicate, length-append, length-replicate}
 use borrow.Author.Tests.{eq-eqb, ne_eqb}
 use Rattle.numbers.specs.Numbers.{unset}
 use Rattle.text.specs.Text.{space, dash, decimal, label_text, right_aligned}
-use Rattle.text.proofs.DecimalFacts.{decimal-short}
+use Rattle.text.proofs.DecimalFacts.{decimal_short}
 
 -- Labels.
 
@@ -18,23 +18,23 @@ five : 10 ^ 5 ≡ 100000
 five = refl
 
 -- a label of 16 bits has at most 5 digits
-pub label-short : (word : ℕ) → word < 65536 → length (label_text word) ≤ 5
+pub label_short : (word : ℕ) → word < 65536 → length (label_text word) ≤ 5
 unfolding label_text
-label-short word h = go (eqb word unset) refl
+label_short word h = go (eqb word unset) refl
   where
     go : (b : Bool) → eqb word unset ≡ b → length (label_text word) ≤ 5
     go true e = rw e (omega arith)
-    go false e = rw e (decimal-short 5 word (omega (arith, five)) (omega arith))
+    go false e = rw e (decimal_short 5 word (omega (arith, five)) (omega arith))
 
 -- the text of an unset label
-pub label-unset : (word : ℕ) → word ≡ unset → label_text word ≡ dash ∷ []
+pub label_unset : (word : ℕ) → word ≡ unset → label_text word ≡ dash ∷ []
 unfolding label_text
-label-unset word e = rw (eq-eqb word unset e)
+label_unset word e = rw (eq-eqb word unset e)
 
 -- the text of a label that is set
-pub label-set : (word : ℕ) → (word ≡ unset → ⊥) → label_text word ≡ decimal word
+pub label_set : (word : ℕ) → (word ≡ unset → ⊥) → label_text word ≡ decimal word
 unfolding label_text
-label-set word e = rw (ne_eqb word unset e)
+label_set word e = rw (ne_eqb word unset e)
 
 -- Columns.
 

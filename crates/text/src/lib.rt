@@ -1,6 +1,8 @@
 // Prints numbers and labels as text into a list of bytes, one behind the other. Each step is told at
 // which place to print and answers the place behind what it printed. The programs and the pages print
 // by these steps.
+#![tactic(auto)]
+
 ghost use Rattle.std.specs.Prelude.{◌≡◌, [], ◌∷◌, ◌++◌, ◌+◌, ◌<◌, ◌≤◌, max, length};
 ghost use Rattle.text.specs.Text.{decimal, label_text, right_aligned};
 ghost use Rattle.text.specs.Printed.{Prints};
@@ -73,9 +75,11 @@ pub fn put_label(output: &mut [u8], at: usize, word: usize, width: usize, delimi
     requires width_bound { width ≤ 20 }
     requires word_in_bounds { at + max width (length (label_text word)) < length output.old }
     ensures value { result ≡ at + max width (length (label_text word)) + 1 }
-    ensures prints { Prints (right_aligned width (label_text word) ++ (delimiter ∷ [])) output.old at output.new result }
+    ensures prints { Prints (right_aligned width (label_text word) ++ (delimiter ∷ []))
+        output.old at output.new result }
 {
-    if word == numbers::WIDE_UNSET {
+    let unset = word == numbers::WIDE_UNSET;
+    if unset {
         let next = put_aligned(output, at, b"-", width);
         return put_byte(output, next, delimiter);
     }

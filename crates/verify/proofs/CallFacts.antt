@@ -9,32 +9,32 @@ use lib.Seq.{length-take-le}
 use borrow.Author.Tests.{not-true}
 use Rattle.numbers.specs.Numbers.{success, bad_result}
 use Rattle.numbers.specs.Refusals.{Refusal, ◌gives◌, first}
-use Rattle.numbers.proofs.First.{first-stop, first_skip, first_append, first_append_stop, first-each}
+use Rattle.numbers.proofs.First.{first_stop, first_skip, first_append, first_append_stop, first_each}
 use Rattle.lists.specs.Lists.{overlay, elem}
 use Rattle.graph.specs.Graph.{offsets_of, targets_of, rows_of}
 use Rattle.graph.specs.File.{vertex_count, edge_count, graph_of}
 use Rattle.graph.specs.Read.{header_refusals, scan_refusals, chain_refusals, clears_marks}
 use Rattle.graph.specs.Steps.{Unchained}
 use Rattle.graph.specs.declared.ReadAnswer.{ReadAnswer}
-use Rattle.graph.proofs.UnchainFacts.{marks_clear, starts-kept, ends-kept, starts-written, ends-written, rows-graph, rows-ground, starts-there, ends_there}
+use Rattle.graph.proofs.UnchainFacts.{marks_clear, starts_kept, ends_kept, starts_written, ends_written, rows_graph, rows_ground, starts_there, ends_there}
 use Rattle.model.specs.Words.{labels_in}
 use Rattle.verify.specs.Certificate.{result_wrong}
 use Rattle.verify.specs.Check.{CheckLent, CheckLengths, lent_lengths, check_early, check_input, check_refusals, check_number, judges, lent_after_check, CheckOutcome, outcome_of_check}
 use Rattle.verify.specs.Promise.{lent_lists, check_exit, Judged}
 use Rattle.verify.specs.Steps.{early_answer, CheckableIn}
-use Rattle.verify.proofs.JudgeFacts.{EarlyPassed, early-number, early-passed}
-use Rattle.verify.proofs.Judging.{early-positive, check_judged}
+use Rattle.verify.proofs.JudgeFacts.{EarlyPassed, early_number, early_passed}
+use Rattle.verify.proofs.Judging.{early_positive, check_judged}
 
 -- Numbers.
 
 -- with a refusal before the chains' no result is looked at, and no list is changed
-early-keeps : (file : List ℕ) (source : ℕ) (lengths : CheckLengths) (lent : CheckLent) → let k = first (check_early file source lengths) in
+early_keeps : (file : List ℕ) (source : ℕ) (lengths : CheckLengths) (lent : CheckLent) → let k = first (check_early file source lengths) in
     (k ≡ 0 → ⊥) → lent_after_check k file lent ≡ lent
 unfolding check_early header_refusals scan_refusals judges clears_marks elem lent_after_check
-early-keeps file source lengths lent h =
+early_keeps file source lengths lent h =
     let l = check_early file source lengths in
-    let unjudged = not-true (judges (first l)) (first-each (λ (k : ℕ). not (judges k)) l refl h) in
-    let marked = not-true (clears_marks (first l)) (first-each (λ (k : ℕ). not (clears_marks k)) l refl h) in
+    let unjudged = not-true (judges (first l)) (first_each (λ (k : ℕ). not (judges k)) l refl h) in
+    let marked = not-true (clears_marks (first l)) (first_each (λ (k : ℕ). not (clears_marks k)) l refl h) in
     rw (unjudged, marked)
 
 -- with a refusal of the chains no result is looked at, and the marks are cleared
@@ -43,8 +43,8 @@ chains_clear : (file : List ℕ) (lent : CheckLent) → let k = first (chain_ref
 unfolding chain_refusals judges clears_marks elem lent_after_check
 chains_clear file lent h =
     let l = chain_refusals file in
-    let unjudged = not-true (judges (first l)) (first-each (λ (k : ℕ). not (judges k)) l refl h) in
-    let marked = first-each clears_marks l refl h in
+    let unjudged = not-true (judges (first l)) (first_each (λ (k : ℕ). not (judges k)) l refl h) in
+    let marked = first_each clears_marks l refl h in
     rw (unjudged, marked)
 
 -- The ways out.
@@ -66,9 +66,9 @@ module _ (file : List ℕ) (source : ℕ) (distances parents : List ℕ) (lent :
   number = check_number file source distances parents lent
 
   -- the tests before the chains are walked come first, then those of the chains, then that of the result
-  number-parts : number ≡ first ((early ++ chain_refusals file) ++ last)
+  number_parts : number ≡ first ((early ++ chain_refusals file) ++ last)
   unfolding check_number check_refusals check_input
-  number-parts = refl
+  number_parts = refl
 
   -- an outcome by its number and its lists
   outcome_by : {k : ℕ} {after : CheckLent} → number ≡ k → lent_after_check k file lent ≡ after → check_exit k after ≡ outcome_of_check file source distances parents lent
@@ -85,23 +85,23 @@ module _ (file : List ℕ) (source : ℕ) (distances parents : List ℕ) (lent :
     pub check_early_lem : (head.number ≡ 0 → ⊥) → check_exit head.number lent ≡ outcome_of_check file source distances parents lent
     check_early_lem h =
         let k = first early in
-        let same : head.number ≡ k = early-number file source (lent_lengths distances parents lent) judged in
+        let same : head.number ≡ k = early_number file source (lent_lengths distances parents lent) judged in
         let found : k ≡ 0 → ⊥ = λ z. h (same ∙ z) in
         let stopped : first (early ++ chain_refusals file) ≡ k = first_append_stop early (chain_refusals file) (omega arith) in
-        let all : number ≡ k = number-parts ∙ first_append_stop (early ++ chain_refusals file) last (omega arith) ∙ stopped in
-        ap (λ (x : ℕ). check_exit x lent) same ∙ outcome_by all (early-keeps file source (lent_lengths distances parents lent) lent found)
+        let all : number ≡ k = number_parts ∙ first_append_stop (early ++ chain_refusals file) last (omega arith) ∙ stopped in
+        ap (λ (x : ℕ). check_exit x lent) same ∙ outcome_by all (early_keeps file source (lent_lengths distances parents lent) lent found)
 
     module _ (passed : head.number ≡ 0) where
       -- what the judgement tells
       abbrev told : EarlyPassed file source (lent_lengths distances parents lent) head
-      told = early-passed file source (lent_lengths distances parents lent) judged passed
+      told = early_passed file source (lent_lengths distances parents lent) judged passed
 
       -- the number is that of the chains, or of the result
-      number-later : number ≡ first (chain_refusals file ++ last)
-      number-later =
-          number-parts
+      number_later : number ≡ first (chain_refusals file ++ last)
+      number_later =
+          number_parts
           ∙ ap first (append_assoc early (chain_refusals file) last)
-          ∙ first_append early (chain_refusals file ++ last) (early-positive file source distances parents lent) told.none
+          ∙ first_append early (chain_refusals file ++ last) (early_positive file source distances parents lent) told.none
 
       module _ {k : ℕ} {offsets' targets' marks' : List ℕ}
           (walked : Unchained file head.edges k lent.offsets lent.targets lent.marks offsets' targets' marks') where
@@ -110,61 +110,61 @@ module _ (file : List ℕ) (source : ℕ) (distances parents : List ℕ) (lent :
         check_chains h =
             let same = walked.judged in
             let found : first (chain_refusals file) ≡ 0 → ⊥ = λ z. h (same ∙ z) in
-            let all : number ≡ first (chain_refusals file) = number-later ∙ first_append_stop (chain_refusals file) last (omega arith) in
+            let all : number ≡ first (chain_refusals file) = number_later ∙ first_append_stop (chain_refusals file) last (omega arith) in
             (λ i. check_exit (same i)
-            (lent_lists (starts-kept told.scanned walked h i) (ends-kept told.scanned walked h i) (marks_clear told.scanned walked i)))
+            (lent_lists (starts_kept told.scanned walked h i) (ends_kept told.scanned walked h i) (marks_clear told.scanned walked i)))
             ∙ outcome_by all (chains_clear file lent found)
 
         module _ (whole : k ≡ 0) where
           -- past the chains the number is that of the result
-          number-last : number ≡ first last
+          number_last : number ≡ first last
           unfolding chain_refusals
-          number-last = number-later ∙ first_append (chain_refusals file) last (omega arith) (sym walked.judged ∙ whole)
+          number_last = number_later ∙ first_append (chain_refusals file) last (omega arith) (sym walked.judged ∙ whole)
 
           -- rows are written
-          abbrev after-rows : CheckLent
-          after-rows = lent_lists (overlay (offsets_of (graph_of file)) lent.offsets) (overlay (targets_of (graph_of file)) lent.targets)
+          abbrev after_rows : CheckLent
+          after_rows = lent_lists (overlay (offsets_of (graph_of file)) lent.offsets) (overlay (targets_of (graph_of file)) lent.targets)
               (overlay (replicate (edge_count file) 0) lent.marks)
 
           -- these are the lists at exit
-          lists_written : lent_lists offsets' targets' marks' ≡ after-rows
+          lists_written : lent_lists offsets' targets' marks' ≡ after_rows
           lists_written =
-              λ i. lent_lists (starts-written told.scanned walked whole i) (ends-written told.scanned walked whole i) (marks_clear told.scanned walked i)
+              λ i. lent_lists (starts_written told.scanned walked whole i) (ends_written told.scanned walked whole i) (marks_clear told.scanned walked i)
 
           -- the result may be looked at
           pub check_ready : CheckableIn head.vertices head.edges source offsets' targets' distances parents
           check_ready =
               let n = head.vertices in
-              let near = length-take-le n distances told.long.distances-there in
-              let far = length-take-le n parents told.long.parents-there in
+              let near = length-take-le n distances told.long.distances_there in
+              let far = length-take-le n parents told.long.parents_there in
               record {
                 first_places = record {
-                  rows = rw near (rows-ground told.scanned walked whole);
-                  source-below = rw near told.near;
-                  parents-all = far ∙ sym near;
+                  rows = rw near (rows_ground told.scanned walked whole);
+                  source_below = rw near told.near;
+                  parents_all = far ∙ sym near;
                 };
-                offsets-there = starts-there told.scanned walked whole;
-                targets-there = ends_there told.scanned walked whole;
-                distances-there = told.long.distances-there;
-                parents-there = told.long.parents-there;
+                offsets_there = starts_there told.scanned walked whole;
+                targets_there = ends_there told.scanned walked whole;
+                distances_there = told.long.distances_there;
+                parents_there = told.long.parents_there;
               }
 
           module _ {found : Bool} (seen : found ≡ result_wrong (rows_of (take (head.vertices + 1) offsets') (take head.edges targets')) source
               (labels_in head.vertices distances parents)) where
             -- the rows are those of the file's graph, and n is the file's
             seen_wrong : found ≡ wrong
-            seen_wrong = rw (rows-graph told.scanned walked whole, told.scanned.sized.vertices) at seen
+            seen_wrong = rw (rows_graph told.scanned walked whole, told.scanned.sized.vertices) at seen
 
             -- the result is wrong
             pub check_wrong : found ≡ true → check_exit bad_result (lent_lists offsets' targets' marks') ≡ outcome_of_check file source distances parents lent
             unfolding lent_after_check judges elem
             check_wrong e =
                 ap (λ (x : CheckLent). check_exit bad_result x) lists_written
-                ∙ outcome_by (number-last ∙ first-stop wrong bad_result [] (sym seen_wrong ∙ e)) refl
+                ∙ outcome_by (number_last ∙ first_stop wrong bad_result [] (sym seen_wrong ∙ e)) refl
 
             -- or it isn't
             pub check_right : found ≡ false → check_exit success (lent_lists offsets' targets' marks') ≡ outcome_of_check file source distances parents lent
             unfolding lent_after_check judges elem first
             check_right e =
                 ap (λ (x : CheckLent). check_exit success x) lists_written
-                ∙ outcome_by (number-last ∙ first_skip wrong bad_result [] (sym seen_wrong ∙ e)) refl
+                ∙ outcome_by (number_last ∙ first_skip wrong bad_result [] (sym seen_wrong ∙ e)) refl

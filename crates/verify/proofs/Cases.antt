@@ -15,7 +15,7 @@ use Rattle.graph.specs.Read.{outside_sizes, header_refusals, scan_refusals, chai
 use Rattle.graph.specs.Encode.{bytes_of}
 use Rattle.model.specs.Words.{option_of, labels_of, labels_in}
 use Rattle.verify.specs.Certificate.{beyond, any_beyond, is_not, not_before, parent_wrong, label_wrong, vertex_wrong, result_wrong}
-use Rattle.verify.specs.Check.{CheckLent, check_short, check_early, check_input, check_refusals, check_number, judges, lent_after_check, outcome_of_check}
+use Rattle.verify.specs.Check.{check_short, check_early, check_input, check_refusals, check_number, judges, lent_after_check, outcome_of_check}
 use Rattle.verify.specs.Promise.{lent_lists, check_exit}
 
 -- a file by its words, a source, distances and parents

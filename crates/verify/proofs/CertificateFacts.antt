@@ -15,14 +15,14 @@ use Rattle.numbers.specs.Numbers.{unset}
 use Rattle.lists.specs.Lists.{numbers_from, elem, reaches, any_of}
 use Rattle.lists.proofs.Or.{or_found, or_passed}
 use Rattle.lists.proofs.Replaced.{map_at}
-use Rattle.lists.proofs.Tests.{reaches-at, reaches-row}
+use Rattle.lists.proofs.Tests.{reaches_at, reaches_row}
 use Rattle.graph.specs.Graph.{edges, targets_of, rows_of}
 use Rattle.graph.specs.Links.{links_of}
 use Rattle.graph.specs.Steps.{GraphRows}
 use Rattle.graph.proofs.Bridge.{graph_links}
 use Rattle.model.specs.Paths.{is_set}
 use Rattle.model.specs.Words.{option_of, labels_of}
-use Rattle.model.proofs.WordFacts.{word_set, word-unset}
+use Rattle.model.proofs.WordFacts.{word_set, word_unset}
 use Rattle.verify.specs.Certificate.{beyond, any_beyond, is_not, not_before, parent_wrong, label_wrong, vertex_wrong, result_wrong}
 use Rattle.verify.specs.Steps.{Checkable}
 
@@ -43,9 +43,9 @@ set_word word = go (eqb word unset)
     go false = refl
 
 -- a word stands for something but a vertex if it isn't its number
-not-word : (vertex word : ℕ) → vertex < unset → is_not vertex (option_of word) ≡ not (eqb word vertex)
+not_word : (vertex word : ℕ) → vertex < unset → is_not vertex (option_of word) ≡ not (eqb word vertex)
 unfolding option_of is_not
-not-word vertex word h = go (eqb word unset) refl
+not_word vertex word h = go (eqb word unset) refl
   where
     go : (b : Bool) → eqb word unset ≡ b → is_not vertex (cond b none (some word)) ≡ not (eqb word vertex)
     go true e = let same = eqb-true word unset e in sym (ap not (ne_eqb word vertex (λ (q : word ≡ vertex). omega arith)))
@@ -64,13 +64,13 @@ module _ (row : List ℕ) (x i : ℕ) (inv : elem x row ≡ elem x (drop i row))
   edge_here {y} h e q = or_found (eqb x y) (elem x (drop (i + 1) row)) (edge_more h e) (eq-eqb x y q)
 
   -- it isn't
-  pub edge-passed : {y : ℕ} → i < length row → y ≡ get_or row i 0 → (x ≡ y → ⊥) → elem x row ≡ elem x (drop (i + 1) row)
-  edge-passed {y} h e q = or_passed (eqb x y) (elem x (drop (i + 1) row)) (edge_more h e) (ne_eqb x y q)
+  pub edge_passed : {y : ℕ} → i < length row → y ≡ get_or row i 0 → (x ≡ y → ⊥) → elem x row ≡ elem x (drop (i + 1) row)
+  edge_passed {y} h e q = or_passed (eqb x y) (elem x (drop (i + 1) row)) (edge_more h e) (ne_eqb x y q)
 
   -- none is left
-  pub edge-end : length row ≤ i → false ≡ elem x row
+  pub edge_end : length row ≤ i → false ≡ elem x row
   unfolding elem
-  edge-end h = sym (inv ∙ ap (elem x) (drop_of_length-le row h))
+  edge_end h = sym (inv ∙ ap (elem x) (drop_of_length-le row h))
 
 -- Whether some target of a row is unset or farther than `most`, one place after another.
 
@@ -80,44 +80,44 @@ module _ (distances : List ℕ) (most : ℕ) where
   any_far row = any_beyond (map option_of distances) most row
 
   -- none is left
-  pub far-end : (row : List ℕ) (i : ℕ) → any_far row ≡ any_far (drop i row) → length row ≤ i → false ≡ any_far row
+  pub far_end : (row : List ℕ) (i : ℕ) → any_far row ≡ any_far (drop i row) → length row ≤ i → false ≡ any_far row
   unfolding any_beyond any_of
-  far-end row i inv h = sym (inv ∙ ap any_far (drop_of_length-le row h))
+  far_end row i inv h = sym (inv ∙ ap any_far (drop_of_length-le row h))
 
   module _ (row : List ℕ) (i : ℕ) (below : reaches (length distances) row ≡ false) (here : i < length row) {t : ℕ} (leads : t ≡ get_or row i 0) where
     -- the target at this place is a vertex
-    pub target-there : t < length distances
-    target-there = rw leads (reaches-at (length distances) row i below here)
+    pub target_there : t < length distances
+    target_there = rw leads (reaches_at (length distances) row i below here)
 
     module _ {distance : ℕ} (label : distance ≡ get_or distances t 0) (inv : any_far row ≡ any_far (drop i row)) where
       -- it is this target, or one further on
-      far-more : any_far row ≡ beyond most (option_of distance) || any_far (drop (i + 1) row)
+      far_more : any_far row ≡ beyond most (option_of distance) || any_far (drop (i + 1) row)
       unfolding any_beyond any_of
-      far-more =
+      far_more =
           let word : get_or (map option_of distances) t none ≡ option_of distance =
-          map_at option_of distances t 0 none target-there ∙ ap option_of (sym label) in
+          map_at option_of distances t 0 none target_there ∙ ap option_of (sym label) in
           let test : ℕ → Bool = λ (u : ℕ). beyond most (get_or (map option_of distances) u none) || any_far (drop (i + 1) row) in
           let one : any_far (drop i row) ≡ test (get_or row i 0) = rw (drop-cons row i 0, add-one) in
           inv ∙ one ∙ ap test (sym leads) ∙ ap (λ (o : Option ℕ). beyond most o || any_far (drop (i + 1) row)) word
 
       -- this one is unset
-      pub far-unset : distance ≡ unset → true ≡ any_far row
+      pub far_unset : distance ≡ unset → true ≡ any_far row
       unfolding beyond
-      far-unset e =
-          or_found (beyond most (option_of distance)) (any_far (drop (i + 1) row)) far-more (ap (beyond most) (ap option_of e ∙ word-unset))
+      far_unset e =
+          or_found (beyond most (option_of distance)) (any_far (drop (i + 1) row)) far_more (ap (beyond most) (ap option_of e ∙ word_unset))
 
       -- this one is farther
-      pub far-here : (distance ≡ unset → ⊥) → most < distance → true ≡ any_far row
+      pub far_here : (distance ≡ unset → ⊥) → most < distance → true ≡ any_far row
       unfolding beyond
-      far-here given h =
-          or_found (beyond most (option_of distance)) (any_far (drop (i + 1) row)) far-more
+      far_here given h =
+          or_found (beyond most (option_of distance)) (any_far (drop (i + 1) row)) far_more
           (ap (beyond most) (word_given distance given) ∙ lt-ltb most distance h)
 
       -- this one is neither
-      pub far-passed : (distance ≡ unset → ⊥) → distance ≤ most → any_far row ≡ any_far (drop (i + 1) row)
+      pub far_passed : (distance ≡ unset → ⊥) → distance ≤ most → any_far row ≡ any_far (drop (i + 1) row)
       unfolding beyond
-      far-passed given h =
-          or_passed (beyond most (option_of distance)) (any_far (drop (i + 1) row)) far-more
+      far_passed given h =
+          or_passed (beyond most (option_of distance)) (any_far (drop (i + 1) row)) far_more
           (ap (beyond most) (word_given distance given) ∙ le-ltb most distance h)
 
 -- The view of a vertex.
@@ -134,7 +134,7 @@ module _ {offsets targets : List ℕ} {n : ℕ} (ground : GraphRows offsets targ
   -- its targets are vertices
   pub view_below : reaches n row ≡ false
   unfolding edges targets_of
-  view_below = ap (reaches n) view_row ∙ reaches-row n (rows_of offsets targets) u (ap (reaches n) (sym ground.ends) ∙ ground.below)
+  view_below = ap (reaches n) view_row ∙ reaches_row n (rows_of offsets targets) u (ap (reaches n) (sym ground.ends) ∙ ground.below)
 
 -- The parent of a vertex.
 
@@ -169,22 +169,22 @@ module _ (offsets targets distances : List ℕ) (v distance parent : ℕ) where
         ∙ ap (λ (o : Option ℕ). not_before distance o || no_edge) (map_at option_of distances parent 0 none inside ∙ ap option_of (sym label))
 
     -- its distance is unset
-    pub parent-unset : before ≡ unset → true ≡ no_parent
+    pub parent_unset : before ≡ unset → true ≡ no_parent
     unfolding not_before
-    parent-unset e = or_found (not_before distance (option_of before)) no_edge parent_by (ap (not_before distance) (ap option_of e ∙ word-unset))
+    parent_unset e = or_found (not_before distance (option_of before)) no_edge parent_by (ap (not_before distance) (ap option_of e ∙ word_unset))
 
     -- its distance isn't one less
-    pub parent-apart : (before ≡ unset → ⊥) → (before + 1 ≡ distance → ⊥) → true ≡ no_parent
+    pub parent_apart : (before ≡ unset → ⊥) → (before + 1 ≡ distance → ⊥) → true ≡ no_parent
     unfolding not_before
-    parent-apart given h =
+    parent_apart given h =
         or_found (not_before distance (option_of before)) no_edge parent_by
         (ap (not_before distance) (word_given before given) ∙ ap not (ne_eqb (suc before) distance (λ e. h (add-one before ∙ e))))
 
     -- its distance is one less
-    pub parent-edge : (before ≡ unset → ⊥) → before + 1 ≡ distance → {found : Bool} {row : List ℕ} → found ≡ elem v row
+    pub parent_edge : (before ≡ unset → ⊥) → before + 1 ≡ distance → {found : Bool} {row : List ℕ} → found ≡ elem v row
         → row ≡ links_of offsets targets parent → not found ≡ no_parent
     unfolding not_before
-    parent-edge given h edge view =
+    parent_edge given h edge view =
         ap not (edge ∙ ap (elem v) (view_row ground parent inside view))
         ∙ sym
         (or_passed (not_before distance (option_of before)) no_edge parent_by
@@ -204,28 +204,28 @@ module _ (source : ℕ) (offsets targets distances parents : List ℕ) where
   module _ (ok : Checkable source offsets targets distances parents) (v : ℕ) (here : v < length distances) {distance parent : ℕ}
       (label : distance ≡ get_or distances v 0) (name : parent ≡ get_or parents v 0) where
     -- by the words that are read
-    wrong-by : wrong_at v ≡ wrong_as v (option_of distance) (option_of parent)
+    wrong_by : wrong_at v ≡ wrong_as v (option_of distance) (option_of parent)
     unfolding vertex_wrong labels_of
-    wrong-by =
+    wrong_by =
         ap₂ (wrong_as v)
         (map_at option_of distances v 0 none here ∙ ap option_of (sym label))
-        (map_at option_of parents v 0 none (omega (arith, ok.parents-all)) ∙ ap option_of (sym name))
+        (map_at option_of parents v 0 none (omega (arith, ok.parents_all)) ∙ ap option_of (sym name))
 
     -- a vertex that isn't reached: it is the source, or it has a parent
-    unreached-by : distance ≡ unset → wrong_at v ≡ eqb v source || not (eqb parent unset)
+    unreached_by : distance ≡ unset → wrong_at v ≡ eqb v source || not (eqb parent unset)
     unfolding label_wrong
-    unreached-by e =
-        wrong-by
-        ∙ ap (λ (o : Option ℕ). wrong_as v o (option_of parent)) (ap option_of e ∙ word-unset)
+    unreached_by e =
+        wrong_by
+        ∙ ap (λ (o : Option ℕ). wrong_as v o (option_of parent)) (ap option_of e ∙ word_unset)
         ∙ ap (λ (b : Bool). eqb v source || b) (set_word parent)
 
     -- it is the source
-    pub unreached-source : distance ≡ unset → v ≡ source → eqb v source ≡ wrong_at v
-    unreached-source e q = let same = eq-eqb v source q in same ∙ or_found (eqb v source) (not (eqb parent unset)) (unreached-by e) same
+    pub unreached_source : distance ≡ unset → v ≡ source → eqb v source ≡ wrong_at v
+    unreached_source e q = let same = eq-eqb v source q in same ∙ or_found (eqb v source) (not (eqb parent unset)) (unreached_by e) same
 
     -- it isn't
-    pub unreached-other : distance ≡ unset → (v ≡ source → ⊥) → not (eqb parent unset) ≡ wrong_at v
-    unreached-other e q = sym (or_passed (eqb v source) (not (eqb parent unset)) (unreached-by e) (ne_eqb v source q))
+    pub unreached_other : distance ≡ unset → (v ≡ source → ⊥) → not (eqb parent unset) ≡ wrong_at v
+    unreached_other e q = sym (or_passed (eqb v source) (not (eqb parent unset)) (unreached_by e) (ne_eqb v source q))
 
     -- what a vertex that is reached is judged by if no edge leads too far, given whether it is the source
     abbrev name_wrong : Bool → Bool
@@ -234,40 +234,40 @@ module _ (source : ℕ) (offsets targets distances parents : List ℕ) where
     module _ (given : distance ≡ unset → ⊥) {far : Bool} {row : List ℕ} (seen : far ≡ any_far distances (distance + 1) row)
         (view : row ≡ links_of offsets targets v) where
       -- a vertex that is reached: an edge leads too far, or the rest is wrong
-      reached-by : wrong_at v ≡ far || name_wrong (eqb v source)
+      reached_by : wrong_at v ≡ far || name_wrong (eqb v source)
       unfolding label_wrong labels_of
-      reached-by =
+      reached_by =
           let same : any_far distances (suc distance) (edges (rows_of offsets targets) v) ≡ far =
           ap₂ (any_beyond (map option_of distances)) (sym (add-one distance)) (sym (view_row ok.rows v here view)) ∙ sym seen in
-          wrong-by
+          wrong_by
           ∙ ap (λ (o : Option ℕ). wrong_as v o (option_of parent)) (word_given distance given)
           ∙ ap (λ (b : Bool). b || name_wrong (eqb v source)) same
 
       -- an edge does
-      pub reached-far : far ≡ true → true ≡ wrong_at v
-      reached-far e = or_found far (name_wrong (eqb v source)) reached-by e
+      pub reached_far : far ≡ true → true ≡ wrong_at v
+      reached_far e = or_found far (name_wrong (eqb v source)) reached_by e
 
       module _ (near : far ≡ false) where
         -- no edge does, and it is the source: its distance isn't 0, or its parent is another
-        source-by : v ≡ source → wrong_at v ≡ not (eqb distance 0) || not (eqb parent source)
-        source-by q =
-            or_passed far (name_wrong (eqb v source)) reached-by near
+        source_by : v ≡ source → wrong_at v ≡ not (eqb distance 0) || not (eqb parent source)
+        source_by q =
+            or_passed far (name_wrong (eqb v source)) reached_by near
             ∙ ap name_wrong (eq-eqb v source q)
-            ∙ ap (λ (b : Bool). not (eqb distance 0) || b) (not-word source parent (omega (arith, ok.source-below, ok.rows.few-vertices)))
+            ∙ ap (λ (b : Bool). not (eqb distance 0) || b) (not_word source parent (omega (arith, ok.source_below, ok.rows.few-vertices)))
 
         -- its distance isn't 0
-        pub source-far : v ≡ source → (distance ≡ 0 → ⊥) → not (eqb distance 0) ≡ wrong_at v
-        source-far q h =
+        pub source_far : v ≡ source → (distance ≡ 0 → ⊥) → not (eqb distance 0) ≡ wrong_at v
+        source_far q h =
             let apart = ap not (ne_eqb distance 0 h) in
-            apart ∙ or_found (not (eqb distance 0)) (not (eqb parent source)) (source-by q) apart
+            apart ∙ or_found (not (eqb distance 0)) (not (eqb parent source)) (source_by q) apart
 
         -- its distance is 0
-        pub source-near : v ≡ source → distance ≡ 0 → not (eqb parent source) ≡ wrong_at v
-        source-near q h = sym (or_passed (not (eqb distance 0)) (not (eqb parent source)) (source-by q) (ap not (eq-eqb distance 0 h)))
+        pub source_near : v ≡ source → distance ≡ 0 → not (eqb parent source) ≡ wrong_at v
+        source_near q h = sym (or_passed (not (eqb distance 0)) (not (eqb parent source)) (source_by q) (ap not (eq-eqb distance 0 h)))
 
         -- no edge does, and it isn't the source: its parent is none
-        pub other-by : (v ≡ source → ⊥) → {wrong : Bool} → wrong ≡ no_parent offsets targets distances v distance parent → wrong ≡ wrong_at v
-        other-by q e = e ∙ sym (or_passed far (name_wrong (eqb v source)) reached-by near ∙ ap name_wrong (ne_eqb v source q))
+        pub other_by : (v ≡ source → ⊥) → {wrong : Bool} → wrong ≡ no_parent offsets targets distances v distance parent → wrong ≡ wrong_at v
+        other_by q e = e ∙ sym (or_passed far (name_wrong (eqb v source)) reached_by near ∙ ap name_wrong (ne_eqb v source q))
 
   -- whether the label of some vertex from v on is wrong
   unfoldable pub wrong_from : ℕ → Bool
@@ -278,27 +278,27 @@ module _ (source : ℕ) (offsets targets distances parents : List ℕ) where
   wrong_any = result_wrong (rows_of offsets targets) source (labels_of distances parents)
 
   -- from the first vertex on
-  pub wrong-all : Checkable source offsets targets distances parents → wrong_any ≡ wrong_from 0
+  pub wrong_all : Checkable source offsets targets distances parents → wrong_any ≡ wrong_from 0
   unfolding wrong_from result_wrong
-  wrong-all ok =
+  wrong_all ok =
       let all : length (rows_of offsets targets) ≡ length distances - 0 = omega (arith, ok.rows.count) in
       ap (λ (k : ℕ). any_of (vertex_wrong (rows_of offsets targets) source (labels_of distances parents)) (numbers_from 0 k)) all
 
   module _ (v : ℕ) (inv : wrong_any ≡ wrong_from v) where
     -- that of v, or of one further on
-    wrong-more : v < length distances → wrong_any ≡ wrong_at v || wrong_from (v + 1)
+    wrong_more : v < length distances → wrong_any ≡ wrong_at v || wrong_from (v + 1)
     unfolding wrong_from any_of numbers_from
-    wrong-more h = let left : length distances - v ≡ suc (length distances - (v + 1)) = omega arith in inv ∙ rw (left, add-one)
+    wrong_more h = let left : length distances - v ≡ suc (length distances - (v + 1)) = omega arith in inv ∙ rw (left, add-one)
 
     -- that of v is wrong
-    pub wrong-here : v < length distances → {wrong : Bool} → wrong ≡ wrong_at v → wrong ≡ true → true ≡ wrong_any
-    wrong-here h e t = or_found (wrong_at v) (wrong_from (v + 1)) (wrong-more h) (sym e ∙ t)
+    pub wrong_here : v < length distances → {wrong : Bool} → wrong ≡ wrong_at v → wrong ≡ true → true ≡ wrong_any
+    wrong_here h e t = or_found (wrong_at v) (wrong_from (v + 1)) (wrong_more h) (sym e ∙ t)
 
     -- that of v isn't
-    pub wrong-passed : v < length distances → {wrong : Bool} → wrong ≡ wrong_at v → wrong ≡ false → wrong_any ≡ wrong_from (v + 1)
-    wrong-passed h e t = or_passed (wrong_at v) (wrong_from (v + 1)) (wrong-more h) (sym e ∙ t)
+    pub wrong_passed : v < length distances → {wrong : Bool} → wrong ≡ wrong_at v → wrong ≡ false → wrong_any ≡ wrong_from (v + 1)
+    wrong_passed h e t = or_passed (wrong_at v) (wrong_from (v + 1)) (wrong_more h) (sym e ∙ t)
 
     -- no vertex is left
-    pub wrong-end : length distances ≤ v → false ≡ wrong_any
+    pub wrong_end : length distances ≤ v → false ≡ wrong_any
     unfolding wrong_from any_of numbers_from
-    wrong-end h = let none_left : length distances - v ≡ 0 = omega arith in sym (inv ∙ rw none_left)
+    wrong_end h = let none_left : length distances - v ≡ 0 = omega arith in sym (inv ∙ rw none_left)

@@ -27,13 +27,13 @@ early_answer file source lengths =
 -- rows of a graph of n vertices, and a distance and a parent for each
 pub record Checkable (source : ℕ) (offsets targets distances parents : List ℕ) : Type 0 where
   pub rows : GraphRows offsets targets (length distances)
-  pub source-below : source < length distances
-  pub parents-all : length parents ≡ length distances
+  pub source_below : source < length distances
+  pub parents_all : length parents ≡ length distances
 
 -- the same of the first places of longer lists
 pub record CheckableIn (n m source : ℕ) (offsets targets distances parents : List ℕ) : Type 0 where
   pub first_places : Checkable source (take (n + 1) offsets) (take m targets) (take n distances) (take n parents)
-  pub offsets-there : n + 1 ≤ length offsets
-  pub targets-there : m ≤ length targets
-  pub distances-there : n ≤ length distances
-  pub parents-there : n ≤ length parents
+  pub offsets_there : n + 1 ≤ length offsets
+  pub targets_there : m ≤ length targets
+  pub distances_there : n ≤ length distances
+  pub parents_there : n ≤ length parents

@@ -91,7 +91,8 @@ fn vertex_wrong(
 {
     let distance = element(distances, vertex);
     let parent = element(parents, vertex);
-    if distance == WIDE_UNSET {
+    let unset = distance == WIDE_UNSET;
+    if unset {
         return vertex == source || parent != WIDE_UNSET;
     }
     if any_beyond(

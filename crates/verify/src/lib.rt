@@ -1,12 +1,14 @@
 // The checker of a finished result: are these distances and parents right for this file and this
 // source? `check` is the outside call; it assumes nothing.
+#![tactic(auto)]
+
 mod call;
 mod certificate;
 
 pub use call::check;
 
 // The lengths of the lent lists.
-#[derive(Drop)]
+#[derive(Clone, Copy)]
 pub struct Lengths {
     pub distances: usize,
     pub parents: usize,

@@ -10,7 +10,7 @@ use lib.ListN.{length, get_or, take, drop}
 use borrow.Author.Tests.{lt-ltb, le-ltb, ltb-true, ltb-false, not-false}
 use Rattle.lists.proofs.Or.{or_none}
 use Rattle.graph.specs.Links.{out_of_view, links_of, links_start}
-use Rattle.graph.proofs.Bridge.{offsets-count, row_at}
+use Rattle.graph.proofs.Bridge.{offsets_count, row_at}
 
 -- where the vertex has two offsets and the second is within the targets, the test is whether they fall
 pub test_falls : (offsets targets : List ℕ) (u start end : ℕ) → 2 ≤ length offsets → u < length offsets - 1 → start ≡ get_or offsets u 0 → end ≡ get_or offsets (u + 1) 0
@@ -53,5 +53,5 @@ module _ (offsets targets : List ℕ) (u start end : ℕ) (test : ltb end start 
   unfolding links_of
   part_between h s e =
       let inside = two_offsets offsets targets u (sym test ∙ le-ltb _ _ h) in
-      let count = offsets-count offsets (omega arith) in
+      let count = offsets_count offsets (omega arith) in
       simp (← test, le-ltb _ _ h) (rw (s, e, add-one) (sym (row_at offsets targets u (omega arith))))

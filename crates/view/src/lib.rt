@@ -1,12 +1,14 @@
 // The view of one vertex's edges, as a part of the caller's own targets. `links` and `links_number`
 // are outside calls; they assume nothing.
+#![tactic(auto)]
+
 ghost use Rattle.std.specs.Prelude.{◌≡◌, ◌+◌, ◌≤◌, ltb, length, get_or};
 ghost use Rattle.graph.specs.Links.{out_of_view, links_number, links_start, word_place, links_of};
 
 use graph::words::element;
 
 // Where the row of a vertex starts and ends in the targets.
-#[derive(Drop)]
+#[derive(Clone, Copy)]
 struct Row {
     start: usize,
     end: usize,
@@ -38,14 +40,16 @@ fn bounds(offsets: &[u16], targets: &[u16], vertex: usize) -> Row
 // "The part of the targets list itself that belongs to the device, or an empty part where number 11
 // holds": where it is, then what it holds. The empty part is at the front.
 pub fn links<'a, 'b>(offsets: &'b [u16], targets: &'a [u16], vertex: usize) -> &'a [u16]
-    ensures ref_ptr_value { result.ref_ptr ≡ word_place targets.entry.ref_ptr (links_start offsets.now targets.now vertex) }
+    ensures ref_ptr_value { result.ref_ptr
+        ≡ word_place targets.entry.ref_ptr (links_start offsets.now targets.now vertex) }
     ensures result_value { result.now ≡ links_of offsets.now targets.now vertex }
 {
     let front = 0;
     let row = bounds(offsets, targets, vertex);
     let start = row.start;
     let end = row.end;
-    if end < start {
+    let falls = end < start;
+    if falls {
         return &targets[front..front];
     }
     &targets[start..end]

@@ -18,7 +18,7 @@ use Rattle.model.specs.State as model
 use Rattle.model.specs.Table.{mark, name, move}
 use Rattle.model.specs.Words.{option_of, labels_of}
 use Rattle.model.specs.Histogram.{recount}
-use Rattle.model.proofs.HistogramFacts.{recount-long, recount-few, recount-set, recount-again}
+use Rattle.model.proofs.HistogramFacts.{recount_long, recount_few, recount_set, recount_again}
 use Rattle.workers.specs.declared.Phase.{Phase}
 use Rattle.workers.specs.declared.Phase.TheVariants.{Free, Holding, InHand, Marked, Named}
 use Rattle.workers.specs.Shown.{phase_of}
@@ -40,7 +40,7 @@ countable_now layer distances (Holding u e f) few can is = tt
 countable_now layer distances (InHand u e f t) few can is =
     let labels = map option_of distances in
     let long : length labels ≡ length distances = length-map distances option_of in
-    rw is (omega (arith, can.0, recount-long labels), omega (arith, recount-few labels (layer + 1)))
+    rw is (omega (arith, can.0, recount_long labels), omega (arith, recount_few labels (layer + 1)))
 countable_now layer distances (Marked u e f t) few can is = tt
 countable_now layer distances (Named u e f t) few can is = tt
 
@@ -48,10 +48,10 @@ countable_now layer distances (Named u e f t) few can is = tt
 
 module _ (distances histogram : List ℕ) (t place word : ℕ) (label : word ≡ get_or distances t 0) where
   -- a target that is unset is counted
-  pub count-unset : {count : ℕ} {histogram' : List ℕ} → word ≡ unset → count ≡ get_or histogram place 0 → histogram' ≡ set histogram place (count + 1)
+  pub count_unset : {count : ℕ} {histogram' : List ℕ} → word ≡ unset → count ≡ get_or histogram place 0 → histogram' ≡ set histogram place (count + 1)
       → histogram' ≡ count_marked t place distances histogram
   unfolding count_marked
-  count-unset q was put = rw (← label, q) (put ∙ ap (λ (k : ℕ). set histogram place (k + 1)) was)
+  count_unset q was put = rw (← label, q) (put ∙ ap (λ (k : ℕ). set histogram place (k + 1)) was)
 
   -- another is not
   pub count_set : (word ≡ unset → ⊥) → histogram ≡ count_marked t place distances histogram
@@ -84,10 +84,10 @@ module _ (distances : List ℕ) {histogram : List ℕ} (layer t : ℕ) (below : 
           → cond b (set (recount labels) (layer + 1) (get_or (recount labels) (layer + 1) 0 + 1)) (recount labels)
           ≡ recount (set labels t (some (layer + 1)))
       go true word =
-          sym (recount-set labels t (layer + 1) (omega (arith, length-map distances option_of)) (omega (arith, length-map distances option_of)) (label word))
+          sym (recount_set labels t (layer + 1) (omega (arith, length-map distances option_of)) (omega (arith, length-map distances option_of)) (label word))
       go false word =
           let old = label word in
-          sym (recount-again labels t (layer + 1) (old ∙ ap (λ (k : ℕ). some k) (same (get_or distances t 0) old)))
+          sym (recount_again labels t (layer + 1) (old ∙ ap (λ (k : ℕ). some k) (same (get_or distances t 0) old)))
 
 -- The distances that a move leaves.
 
@@ -97,26 +97,26 @@ distances_in none = []
 distances_in (some m) = m.1.distances
 
 -- they are those that stand for the distances after it
-after-labels : {offsets targets distances parents distances' parents' : List ℕ} {layer : ℕ} {phase phase' : Phase}
+after_labels : {offsets targets distances parents distances' parents' : List ℕ} {layer : ℕ} {phase phase' : Phase}
     → Advanced phase layer offsets targets distances parents distances' parents' phase'
     → distances_in (move (rows_of offsets targets) layer (labels_of distances parents) empty_bag empty_bag (phase_of offsets phase)) ≡ map option_of distances'
 unfolding labels_of
-after-labels advanced = ap distances_in (advanced.made empty_bag empty_bag)
+after_labels advanced = ap distances_in (advanced.made empty_bag empty_bag)
 
 -- a move without a bag keeps the counts a recount
-pub counts-recount : {offsets targets distances parents distances' parents' : List ℕ} {layer : ℕ} (phase : Phase) {phase' : Phase}
+pub counts_recount : {offsets targets distances parents distances' parents' : List ℕ} {layer : ℕ} (phase : Phase) {phase' : Phase}
     {histogram histogram' : List ℕ}
     → Advanced phase layer offsets targets distances parents distances' parents' phase'
     → Between targets (length distances) phase → Markable layer (length distances) distances phase
     → histogram ≡ recount (map option_of distances) → histogram' ≡ counts_after phase layer distances histogram
     → histogram' ≡ recount (map option_of distances')
 unfolding move mark name phase_of labels_of
-counts-recount Free advanced between can is after = absurd between
-counts-recount (Holding u e f) advanced between can is after = after ∙ is ∙ ap recount (after-labels advanced)
-counts-recount {distances = distances} {layer = layer} (InHand u e f t) advanced between can is after =
+counts_recount Free advanced between can is after = absurd between
+counts_recount (Holding u e f) advanced between can is after = after ∙ is ∙ ap recount (after_labels advanced)
+counts_recount {distances = distances} {layer = layer} (InHand u e f t) advanced between can is after =
     after
     ∙ count-marked distances layer t between can.0 can.1 is
     ∙ ap (λ (k : ℕ). recount (set (map option_of distances) t (some k))) (add-one layer)
-    ∙ ap recount (after-labels advanced)
-counts-recount (Marked u e f t) advanced between can is after = after ∙ is ∙ ap recount (after-labels advanced)
-counts-recount (Named u e f t) advanced between can is after = absurd between
+    ∙ ap recount (after_labels advanced)
+counts_recount (Marked u e f t) advanced between can is after = after ∙ is ∙ ap recount (after_labels advanced)
+counts_recount (Named u e f t) advanced between can is after = absurd between

@@ -12,19 +12,19 @@ use Rattle.pennant.specs.Held.{size, one}
 use Rattle.pennant.proofs.Laws.{weigh_split, weigh_union, weigh_empty, empty_weighs}
 use Rattle.bag.specs.declared.Bag as declared
 use Rattle.bag.specs.Promises.{Pooled}
-use Rattle.bag.proofs.Family.{pool-one}
+use Rattle.bag.proofs.Family.{pool_one}
 use Rattle.schedule.specs.declared.Event.TheVariants.{Split, Unite}
 use Rattle.model.specs.State as model
 use Rattle.model.specs.Table.{replace_workers, split_inputs, unite_outputs, act}
 use Rattle.workers.specs.Shown.{crew_of}
-use Rattle.workers.proofs.CrewFacts.{Even, crew-at, crew-input, crew-output}
+use Rattle.workers.proofs.CrewFacts.{Even, crew_at, crew_input, crew_output}
 
 -- the two bags of a pool by themselves
-pub pool-first : {left right : List ℕ} (a b : declared.Bag) → Pooled left right (a ∷ b ∷ []) → Pooled left right (a ∷ [])
-pool-first a b pool = pool-one (a ∷ b ∷ []) 0 pool (omega arith)
+pub pool_first : {left right : List ℕ} (a b : declared.Bag) → Pooled left right (a ∷ b ∷ []) → Pooled left right (a ∷ [])
+pool_first a b pool = pool_one (a ∷ b ∷ []) 0 pool (omega arith)
 
-pub pool-second : {left right : List ℕ} (a b : declared.Bag) → Pooled left right (a ∷ b ∷ []) → Pooled left right (b ∷ [])
-pool-second a b pool = pool-one (a ∷ b ∷ []) 1 pool (omega arith)
+pub pool_second : {left right : List ℕ} (a b : declared.Bag) → Pooled left right (a ∷ b ∷ []) → Pooled left right (b ∷ [])
+pool_second a b pool = pool_one (a ∷ b ∷ []) 1 pool (omega arith)
 
 -- two bags have as many numbers after a split of the second, where the first was empty
 pub split_size : (taker giver : Bag) → is_empty taker ≡ true → size (split_second giver) + size (split_first giver) ≡ size taker + size giver
@@ -40,7 +40,7 @@ module _ {n : ℕ} (g : Graph) (s : model.State) (inputs outputs : List Bag) (ph
     (is : s.workers ≡ crew_of inputs outputs phases) (w v : ℕ) where
   -- worker k of the state
   at : (k : ℕ) → model.worker_at s.workers k ≡ model.worker_with (get_or inputs k empty_bag) (get_or outputs k empty_bag) (get_or phases k model.free)
-  at k = ap (λ (l : List model.Worker). model.worker_at l k) is ∙ crew-at inputs outputs phases k even
+  at k = ap (λ (l : List model.Worker). model.worker_at l k) is ∙ crew_at inputs outputs phases k even
 
   -- kind 1: two input bags are replaced
   pub split_act : act g s (Split w v)
@@ -52,8 +52,8 @@ module _ {n : ℕ} (g : Graph) (s : model.State) (inputs outputs : List Bag) (ph
         at w,
         at v,
         is,
-        ← crew-input inputs outputs phases v (split_first (get_or inputs v empty_bag)),
-        ← crew-input (set inputs v (split_first (get_or inputs v empty_bag))) outputs phases w (split_second (get_or inputs v empty_bag)),
+        ← crew_input inputs outputs phases v (split_first (get_or inputs v empty_bag)),
+        ← crew_input (set inputs v (split_first (get_or inputs v empty_bag))) outputs phases w (split_second (get_or inputs v empty_bag)),
       )
       refl
 
@@ -67,7 +67,7 @@ module _ {n : ℕ} (g : Graph) (s : model.State) (inputs outputs : List Bag) (ph
         at w,
         at v,
         is,
-        ← crew-output inputs outputs phases v (bag_union (get_or outputs v empty_bag) (get_or outputs w empty_bag)),
-        ← crew-output inputs (set outputs v (bag_union (get_or outputs v empty_bag) (get_or outputs w empty_bag))) phases w empty_bag,
+        ← crew_output inputs outputs phases v (bag_union (get_or outputs v empty_bag) (get_or outputs w empty_bag)),
+        ← crew_output inputs (set outputs v (bag_union (get_or outputs v empty_bag) (get_or outputs w empty_bag))) phases w empty_bag,
       )
       refl

@@ -11,7 +11,7 @@ use borrow.Author.Tests.{ltb-true, ltb-false, lt-ltb, le-ltb, ne_eqb}
 use Rattle.numbers.specs.Numbers.{unset}
 use Rattle.graph.specs.Graph.{edges, rows_of}
 use Rattle.graph.specs.Steps.{GraphRows}
-use Rattle.graph.proofs.GraphRowsFacts.{rows-within, row_ends, row_target, target_below}
+use Rattle.graph.proofs.GraphRowsFacts.{rows_within, row_ends, row_target, target_below}
 use Rattle.model.specs.Paths.{edge_target, Labels, is_set}
 use Rattle.model.specs.State as model
 use Rattle.model.specs.Table.{hold_at, look, move}
@@ -20,11 +20,11 @@ use Rattle.workers.specs.declared.Phase.TheVariants.{Free, Holding, InHand, Mark
 use Rattle.model.specs.Words.{option_of, labels_of}
 use Rattle.workers.specs.Shown.{phase_of}
 use Rattle.workers.specs.Steps.{EdgeOf, InRows, hold_from, look_at, Advanced}
-use Rattle.model.proofs.WordFacts.{label_at, mark-shown, name-shown}
+use Rattle.model.proofs.WordFacts.{label_at, mark_shown, name_shown}
 
 -- what an edge of a vertex needs no test for: each index is in its list and fits 16 bits
 pub record EdgeSmall (offsets targets : List ℕ) (n u e : ℕ) : Type 0 where
-  pub edge-below : e < length targets
+  pub edge_below : e < length targets
   pub edge_small : e + 1 < 65536
   pub target_below : get_or targets e 0 < n
 
@@ -58,9 +58,9 @@ module _ {offsets targets : List ℕ} {n : ℕ} (ground : GraphRows offsets targ
   -- an edge of a vertex is in the lists
   pub edge_small : {u e f : ℕ} → EdgeOf offsets n u e f → EdgeSmall offsets targets n u e
   edge_small {u} {e} edge =
-      let within = rows-within ground u edge.vertex in
+      let within = rows_within ground u edge.vertex in
       record {
-        edge-below = omega (arith, edge.last);
+        edge_below = omega (arith, edge.last);
         edge_small = omega (arith, edge.last, ground.few-edges);
         target_below = target_below ground e (omega (arith, edge.last));
       }
@@ -80,14 +80,14 @@ module _ (offsets : List ℕ) (u e : ℕ) (end : ℕ) (at : end ≡ get_or offse
 
 module _ (offsets targets distances : List ℕ) (u e f t word : ℕ) (target : t ≡ get_or targets e 0) (label : word ≡ get_or distances t 0) where
   -- a target whose distance is unset is in hand
-  pub look-unset : f ≡ get_or offsets (u + 1) 0 → word ≡ unset → InHand u e f t ≡ look_at offsets targets distances u e
+  pub look_unset : f ≡ get_or offsets (u + 1) 0 → word ≡ unset → InHand u e f t ≡ look_at offsets targets distances u e
   unfolding look_at
-  look-unset ends q = rw (← target, ← label, q) (ap (λ (k : ℕ). InHand u e k t) ends)
+  look_unset ends q = rw (← target, ← label, q) (ap (λ (k : ℕ). InHand u e k t) ends)
 
   -- another is passed
-  pub look-set : (phase : Phase) → phase ≡ hold_from offsets u (e + 1) → (word ≡ unset → ⊥) → phase ≡ look_at offsets targets distances u e
+  pub look_set : (phase : Phase) → phase ≡ hold_from offsets u (e + 1) → (word ≡ unset → ⊥) → phase ≡ look_at offsets targets distances u e
   unfolding look_at
-  look-set phase held apart = rw (← target, ← label, ne_eqb word unset apart) held
+  look_set phase held apart = rw (← target, ← label, ne_eqb word unset apart) held
 
 -- At an edge of u.
 
@@ -100,14 +100,14 @@ module _ {offsets targets : List ℕ} {n : ℕ} (ground : GraphRows offsets targ
       ∙ ap (λ (i : ℕ). get_or targets i 0) place
 
   -- the next edge by both counts
-  edge-next : (e + 1) - get_or offsets u 0 ≡ suc (e - get_or offsets u 0)
-  edge-next = omega (arith, edge.first)
+  edge_next : (e + 1) - get_or offsets u 0 ≡ suc (e - get_or offsets u 0)
+  edge_next = omega (arith, edge.first)
 
   -- the phase after edge e is the model's
-  pub pass-shown : phase_of offsets (hold_from offsets u (e + 1)) ≡ hold_at (rows_of offsets targets) u (suc (e - get_or offsets u 0))
-  pass-shown =
+  pub pass_shown : phase_of offsets (hold_from offsets u (e + 1)) ≡ hold_at (rows_of offsets targets) u (suc (e - get_or offsets u 0))
+  pass_shown =
       hold_shown ground u (e + 1) edge.vertex (omega (arith, edge.first))
-      ∙ ap (λ (i : ℕ). hold_at (rows_of offsets targets) u i) edge-next
+      ∙ ap (λ (i : ℕ). hold_at (rows_of offsets targets) u i) edge_next
 
   -- and fits
   pub pass_fits : InRows offsets n (hold_from offsets u (e + 1))
@@ -118,11 +118,11 @@ module _ {offsets targets : List ℕ} {n : ℕ} (ground : GraphRows offsets targ
 module _ {offsets targets : List ℕ} (distances : List ℕ) (ground : GraphRows offsets targets (length distances)) {u e f : ℕ}
     (edge : EdgeOf offsets (length distances) u e f) where
   -- the engine looks where the model does
-  look-shown : (parents : List ℕ)
+  look_shown : (parents : List ℕ)
       → phase_of offsets (look_at offsets targets distances u e) ≡ look (rows_of offsets targets) (labels_of distances parents) u (e - get_or offsets u 0)
   unfolding phase_of look_at look option_of
-  look-shown parents =
-      rw (edge-target ground edge, label_at distances parents (get_or targets e 0) (target_below ground e (edge_small ground edge).edge-below))
+  look_shown parents =
+      rw (edge-target ground edge, label_at distances parents (get_or targets e 0) (target_below ground e (edge_small ground edge).edge_below))
       (go (eqb (get_or distances (get_or targets e 0) 0) unset))
     where
       i : ℕ
@@ -134,12 +134,12 @@ module _ {offsets targets : List ℕ} (distances : List ℕ) (ground : GraphRows
       go : (b : Bool) → phase_of offsets (cond b (InHand u e (get_or offsets (u + 1) 0) t) (hold_from offsets u (e + 1)))
           ≡ cond (is_set (cond b none (some (get_or distances t 0)))) (hold_at (rows_of offsets targets) u (suc i)) (model.in_hand u i t)
       go true = refl
-      go false = pass-shown ground edge
+      go false = pass_shown ground edge
 
   -- what it finds fits
-  look-fits : InRows offsets (length distances) (look_at offsets targets distances u e)
+  look_fits : InRows offsets (length distances) (look_at offsets targets distances u e)
   unfolding look_at
-  look-fits = go (eqb (get_or distances (get_or targets e 0) 0) unset)
+  look_fits = go (eqb (get_or distances (get_or targets e 0) 0) unset)
     where
       go : (b : Bool) → InRows offsets (length distances) (cond b (InHand u e (get_or offsets (u + 1) 0) (get_or targets e 0)) (hold_from offsets u (e + 1)))
       go true = (
@@ -153,10 +153,10 @@ module _ {offsets targets : List ℕ} (distances : List ℕ) (ground : GraphRows
       → Advanced (Holding u e f) layer offsets targets distances parents distances parents (look_at offsets targets distances u e)
   unfolding move phase_of
   advance_look layer parents = record {
-    made = λ input output. ap (λ (phase : model.Phase). some (model.worker_with input output phase, labels_of distances parents)) (sym (look-shown parents));
-    in_rows = look-fits;
-    distances-length = refl;
-    parents-length = refl;
+    made = λ input output. ap (λ (phase : model.Phase). some (model.worker_with input output phase, labels_of distances parents)) (sym (look_shown parents));
+    in_rows = look_fits;
+    distances_length = refl;
+    parents_length = refl;
   }
 
   -- mark
@@ -166,10 +166,10 @@ module _ {offsets targets : List ℕ} (distances : List ℕ) (ground : GraphRows
   advance_mark layer t parents h k = record {
     made = λ input output.
         ap (λ (x : Labels). some (model.worker_with input output (model.marked u (e - get_or offsets u 0) t), x))
-        (sym (mark-shown distances parents t layer (omega (arith, ground.few-vertices))));
+        (sym (mark_shown distances parents t layer (omega (arith, ground.few-vertices))));
     in_rows = (edge, h);
-    distances-length = length-set distances t (layer + 1);
-    parents-length = refl;
+    distances_length = length-set distances t (layer + 1);
+    parents_length = refl;
   }
 
   -- name
@@ -179,10 +179,10 @@ module _ {offsets targets : List ℕ} (distances : List ℕ) (ground : GraphRows
   advance_name layer t parents h = record {
     made = λ input output.
         ap (λ (x : Labels). some (model.worker_with input output (model.named u (e - get_or offsets u 0) t), x))
-        (sym (name-shown distances parents t u (omega (arith, ground.few-vertices, edge.vertex))));
+        (sym (name_shown distances parents t u (omega (arith, ground.few-vertices, edge.vertex))));
     in_rows = (edge, h);
-    distances-length = refl;
-    parents-length = length-set parents t u;
+    distances_length = refl;
+    parents_length = length-set parents t u;
   }
 
 -- The same of a phase that is known to be one of the three.
@@ -194,20 +194,20 @@ fits_as offsets n is fits = subst (InRows offsets n) is fits
 module _ {offsets targets : List ℕ} (distances : List ℕ) (ground : GraphRows offsets targets (length distances)) (phase : Phase)
     (fits : InRows offsets (length distances) phase) (layer : ℕ) (parents : List ℕ) where
   -- look
-  pub advanced-look : (u e f : ℕ) (phase' : Phase) → phase ≡ Holding u e f → phase' ≡ look_at offsets targets distances u e
+  pub advanced_look : (u e f : ℕ) (phase' : Phase) → phase ≡ Holding u e f → phase' ≡ look_at offsets targets distances u e
       → Advanced phase layer offsets targets distances parents distances parents phase'
-  advanced-look u e f phase' is found = rw (is, found) (advance_look distances ground (fits_as offsets (length distances) is fits) layer parents)
+  advanced_look u e f phase' is found = rw (is, found) (advance_look distances ground (fits_as offsets (length distances) is fits) layer parents)
 
   -- mark
-  pub advanced-mark : (u e f t : ℕ) (distances' : List ℕ) → layer < length distances → phase ≡ InHand u e f t → distances' ≡ set distances t (layer + 1)
+  pub advanced_mark : (u e f t : ℕ) (distances' : List ℕ) → layer < length distances → phase ≡ InHand u e f t → distances' ≡ set distances t (layer + 1)
       → Advanced phase layer offsets targets distances parents distances' parents (Marked u e f t)
-  advanced-mark u e f t distances' low is put =
+  advanced_mark u e f t distances' low is put =
       let both = fits_as offsets (length distances) is fits in
       rw (is, put) (advance_mark distances ground both.0 layer t parents both.1 low)
 
   -- name
-  pub advanced-name : (u e f t : ℕ) (parents' : List ℕ) → phase ≡ Marked u e f t → parents' ≡ set parents t u
+  pub advanced_name : (u e f t : ℕ) (parents' : List ℕ) → phase ≡ Marked u e f t → parents' ≡ set parents t u
       → Advanced phase layer offsets targets distances parents distances parents' (Named u e f t)
-  advanced-name u e f t parents' is put =
+  advanced_name u e f t parents' is put =
       let both = fits_as offsets (length distances) is fits in
       rw (is, put) (advance_name distances ground both.0 layer t parents both.1)

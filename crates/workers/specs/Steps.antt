@@ -83,8 +83,8 @@ pub record Advanced (phase : Phase) (layer : ℕ)
       → move (rows_of offsets targets) layer (labels_of distances parents) input output (phase_of offsets phase)
       ≡ some (model.worker_with input output (phase_of offsets phase'), labels_of distances' parents')
   pub in_rows : InRows offsets (length distances) phase'
-  pub distances-length : length distances' ≡ length distances
-  pub parents-length : length parents' ≡ length parents
+  pub distances_length : length distances' ≡ length distances
+  pub parents_length : length parents' ≡ length parents
 
 -- at the first edge of u
 abbrev pub hold_first : List ℕ → ℕ → Phase

@@ -2,6 +2,8 @@
 // a close. All workers' input bags, output bags and phases stand in three arrays; a move takes the bag
 // and the phase that it is about, by value, and gives them back. These are inner steps: they may
 // assume what their callers prove.
+#![tactic(auto)]
+
 use bag::Bag;
 
 mod crew;
@@ -14,7 +16,7 @@ pub use pairs::{can_split, can_unite};
 
 // "A worker is free, holds a device with a link to look at, or is partway through a link": the
 // vertex, its edge by its place in the targets, where the vertex's edges end, and the edge's target.
-#[derive(Drop)]
+#[derive(Clone, Copy)]
 pub enum Phase {
     Free,
     Holding {
@@ -43,14 +45,14 @@ pub enum Phase {
 }
 
 // A worker that has taken from its input bag: what is left there, and its phase.
-#[derive(Drop)]
+#[derive(Clone, Copy)]
 pub struct Begun {
     pub input: Bag,
     pub phase: Phase,
 }
 
 // A worker that has stowed in its output bag: what is there now, and its phase.
-#[derive(Drop)]
+#[derive(Clone, Copy)]
 pub struct Stowed {
     pub output: Bag,
     pub phase: Phase,

@@ -125,7 +125,8 @@ pub fn begin(input: Bag, offsets: &[u16], left: &mut [u16], right: &[u16], value
     requires pooled { Pooled left.old right.now (input ∷ []) }
     requires left_in_bounds { length left.old ≤ length values.now }
     requires input_value { is_empty (held_by left.old right.now values.now input) ≡ false }
-    requires by_index { (v : ℕ) → 1 ≤ copies v (held_by left.old right.now values.now input) → v + 1 < length offsets.now }
+    requires by_index { (v : ℕ) → 1 ≤ copies v (held_by left.old right.now values.now input)
+        → v + 1 < length offsets.now }
     ensures { BegunFrom input offsets.now left.old right.now values.now
         left.new result.input result.phase }
 {
@@ -156,7 +157,7 @@ pub fn stow(
     requires edge_bound { edge + 1 < 65536 }
     requires pooled { Pooled left.old right.old (output ∷ []) }
     requires left_in_bounds { length left.old ≤ length values.old }
-    requires fact { get_or left.old 0 0 ≡ 0 → ⊥ }
+    requires some_free { get_or left.old 0 0 ≡ 0 → ⊥ }
     ensures inserted { Inserted left.old right.old values.old output target
         left.new right.new values.new result.output }
     ensures by_index { (offsets : List ℕ) → end ≡ get_or offsets (vertex + 1) 0

@@ -12,7 +12,8 @@ pub fn can_split(taker: Bag, giver: Bag) -> bool
     ensures { (left right values : List ℕ) → Pooled left right (giver ∷ taker ∷ [])
         → result ≡ (is_empty (held_by left right values taker) && at_least_two (held_by left right values giver)) }
 {
-    if !bag::is_empty(taker) {
+    let filled = !bag::is_empty(taker);
+    if filled {
         return false;
     }
     bag::at_least_two(giver)
@@ -22,7 +23,8 @@ pub fn can_split(taker: Bag, giver: Bag) -> bool
 // the taker v.
 pub fn can_unite(giver: Bag, taker: Bag) -> bool
     ensures { (left right values : List ℕ) → Pooled left right (taker ∷ giver ∷ [])
-        → result ≡ (not (is_empty (held_by left right values giver)) && not (is_empty (held_by left right values taker))) }
+        → result ≡ (not (is_empty (held_by left right values giver))
+        && not (is_empty (held_by left right values taker))) }
 {
     if bag::is_empty(giver) {
         return false;

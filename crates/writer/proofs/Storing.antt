@@ -8,27 +8,27 @@ use native.Mathlib.Omega.{arith}
 use lib.ListN.{length, get_or, set, take, length-set}
 use lib.Seq.{length-take-le}
 use Rattle.lists.specs.Lists.{overlay}
-use Rattle.lists.proofs.Overlay.{overlay-suc, overlay-all, overlay-again, overlay-here}
+use Rattle.lists.proofs.Overlay.{overlay_suc, overlay_all, overlay_again, overlay_here}
 use Rattle.lists.proofs.Rows.{Two, two_later}
 use Rattle.graph.specs.Encode.{bytes_of}
-use Rattle.graph.proofs.EncodeFacts.{length-bytes}
+use Rattle.graph.proofs.EncodeFacts.{length_bytes}
 
 -- the low byte and the high byte of word i
-bytes-at : (words : List ℕ) (i : ℕ) → i < length words → Two (bytes_of words) (2 * i) (get_or words i 0 % 256) (get_or words i 0 / 256)
+bytes_at : (words : List ℕ) (i : ℕ) → i < length words → Two (bytes_of words) (2 * i) (get_or words i 0 % 256) (get_or words i 0 / 256)
 unfolding bytes_of
-bytes-at [] i h = absurd (not-suc-le-zero h)
-bytes-at (w ∷ words) zero h = record { fst = refl; snd = refl }
-bytes-at (w ∷ words) (suc i) h = two_later i (w % 256) (w / 256) (bytes-at words i (le_of_suc-le-suc h))
+bytes_at [] i h = absurd (not-suc-le-zero h)
+bytes_at (w ∷ words) zero h = record { fst = refl; snd = refl }
+bytes_at (w ∷ words) (suc i) h = two_later i (w % 256) (w / 256) (bytes_at words i (le_of_suc-le-suc h))
 
 -- where the first i words are written, storing word i writes one more
 put_word : (words file : List ℕ) (i w : ℕ) → i < length words → 2 * length words ≤ length file → w ≡ get_or words i 0
     → set (set (overlay (take (2 * i) (bytes_of words)) file) (2 * i) (w % 256)) (2 * i + 1) (w / 256) ≡ overlay (take (2 * (i + 1)) (bytes_of words)) file
 put_word words file i w h k e =
     let bytes : List ℕ = bytes_of words in
-    let size : length bytes ≡ 2 * length words = length-bytes words in
+    let size : length bytes ≡ 2 * length words = length_bytes words in
     let place : 2 * i + 1 ≡ suc (2 * i) = add-one (2 * i) in
     let more : 2 * (i + 1) ≡ suc (suc (2 * i)) = omega arith in
-    cc (overlay-suc bytes file (2 * i) (omega arith) (omega arith), overlay-suc bytes file (suc (2 * i)) (omega arith) (omega arith), (bytes-at words i h).fst, (bytes-at words i h).snd)
+    cc (overlay_suc bytes file (2 * i) (omega arith) (omega arith), overlay_suc bytes file (suc (2 * i)) (omega arith) (omega arith), (bytes_at words i h).fst, (bytes_at words i h).snd)
 
 -- the list `old` has become `file`: the first i of the words are written over it, and there is room for all of them
 pub record Begun (words old file : List ℕ) (i : ℕ) : Type 0 where
@@ -44,7 +44,7 @@ begun_none words file h = record { bytes = refl; same = refl; inside = zero-le; 
 
 -- the length of what is written
 length_begun : (words : List ℕ) (i : ℕ) → i ≤ length words → length (take (2 * i) (bytes_of words)) ≡ 2 * i
-length_begun words i h = length-take-le (2 * i) (bytes_of words) (omega (arith, length-bytes words))
+length_begun words i h = length-take-le (2 * i) (bytes_of words) (omega (arith, length_bytes words))
 
 module _ {words old file : List ℕ} {i : ℕ} (done : Begun words old file i) where
   -- one word more, by `put`
@@ -65,7 +65,7 @@ module _ {words old file : List ℕ} {i : ℕ} (done : Begun words old file i) w
   -- what is written may be written again
   pub begun_here : Begun words file file i
   begun_here = record {
-    bytes = overlay-here (take (2 * i) (bytes_of words)) old done.bytes;
+    bytes = overlay_here (take (2 * i) (bytes_of words)) old done.bytes;
     same = refl;
     inside = done.inside;
     room = omega (arith, done.room, done.same);
@@ -75,7 +75,7 @@ module _ {words old file : List ℕ} {i : ℕ} (done : Begun words old file i) w
   pub begun_more : {more : List ℕ} {j : ℕ} → i ≤ j → Begun words file more j → Begun words old more j
   begun_more {more} {j} h next = record {
     bytes = next.bytes ∙ ap (overlay (take (2 * j) (bytes_of words))) done.bytes
-        ∙ overlay-again (take (2 * j) (bytes_of words)) (take (2 * i) (bytes_of words)) old (omega (arith, length_begun words i done.inside, length_begun words j next.inside));
+        ∙ overlay_again (take (2 * j) (bytes_of words)) (take (2 * i) (bytes_of words)) old (omega (arith, length_begun words i done.inside, length_begun words j next.inside));
     same = next.same ∙ done.same;
     inside = next.inside;
     room = done.room;
@@ -83,4 +83,4 @@ module _ {words old file : List ℕ} {i : ℕ} (done : Begun words old file i) w
 
   -- all is written
   pub begun_all : length words ≤ i → file ≡ overlay (bytes_of words) old
-  begun_all h = done.bytes ∙ overlay-all (bytes_of words) old (2 * i) (omega (arith, length-bytes words))
+  begun_all h = done.bytes ∙ overlay_all (bytes_of words) old (2 * i) (omega (arith, length_bytes words))

@@ -35,10 +35,10 @@ written_cons a offsets targets is =
     (rows_rising a offsets targets is.rows)
     is.rows.stop
 
-written-accepted : (offsets targets : List ℕ) (n : ℕ) → length offsets ≡ n + 1 → Accepted offsets targets → Written offsets targets n
-written-accepted [] targets n h is = absurd (not-suc-le-zero is.rows.some)
-written-accepted (a ∷ offsets) targets n h is = subst (λ (x : ℕ). Written (a ∷ offsets) targets x) (omega arith) (written_cons a offsets targets is)
+written_accepted : (offsets targets : List ℕ) (n : ℕ) → length offsets ≡ n + 1 → Accepted offsets targets → Written offsets targets n
+written_accepted [] targets n h is = absurd (not-suc-le-zero is.rows.some)
+written_accepted (a ∷ offsets) targets n h is = subst (λ (x : ℕ). Written (a ∷ offsets) targets x) (omega arith) (written_cons a offsets targets is)
 
--- the offsets and the file of well_formed rows
-pub written-rows : {offsets targets : List ℕ} {n : ℕ} → WellFormed offsets targets n → Written offsets targets n
-written-rows {offsets} {targets} {n} rows = written-accepted offsets targets n rows.vertices (accept_rows offsets targets rows.clean)
+-- the offsets and the file of well-formed rows
+pub written_rows : {offsets targets : List ℕ} {n : ℕ} → WellFormed offsets targets n → Written offsets targets n
+written_rows {offsets} {targets} {n} rows = written_accepted offsets targets n rows.vertices (accept_rows offsets targets rows.clean)

@@ -1,6 +1,8 @@
 // The writer of the adjacency file: rows to the one encoding that numbers records 1 to m in row order.
 // Words are stored from the front, so that a prefix of the file is written at any moment. `write` is
 // the outside call; it assumes nothing.
+#![tactic(auto)]
+
 ghost use Rattle.std.specs.Prelude.{◌≡◌, ◌+◌, ◌*◌, ◌<◌, ◌≤◌, length, take};
 ghost use Rattle.lists.specs.Lists.{overlay, reaches, falls_from};
 ghost use Rattle.graph.specs.Graph.{rows_of};
