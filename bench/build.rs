@@ -6,7 +6,7 @@ use std::path::Path;
 
 fn main() {
     let package = env::var("CARGO_MANIFEST_DIR").expect("cargo names the package's folder");
-    let folder = Path::new(&package).join("../target/staticlib");
+    let folder = Path::new(&package).join("../crates/capi/out");
     println!("cargo:rustc-link-search=native={}", folder.display());
     println!(
         "cargo:rerun-if-changed={}",

@@ -2,8 +2,8 @@
  * four_devices/page.txt. Then one parent is made wrong, and both calls must refuse the result. The
  * exit status is 0 where all of this is so.
  *
- *     rt staticlib capi
- *     gcc -std=c99 -Wall -Wextra -Werror -Iinclude examples/check_and_page.c target/staticlib/libcapi.a \
+ *     (cd crates/capi && rt lib) && mkdir -p target
+ *     gcc -std=c99 -Wall -Wextra -Werror -Iinclude examples/check_and_page.c crates/capi/out/libcapi.a \
  *         -o target/check_and_page
  *     target/check_and_page
  *

@@ -1,8 +1,8 @@
 /* Case A through the C interface (include/hopmap.h): prints four_devices/result.txt, and on standard
  * error the census, how many devices stand at each distance.
  *
- *     rt staticlib capi
- *     gcc -std=c99 -Wall -Wextra -Werror -Iinclude examples/search.c target/staticlib/libcapi.a -o target/search
+ *     (cd crates/capi && rt lib) && mkdir -p target
+ *     gcc -std=c99 -Wall -Wextra -Werror -Iinclude examples/search.c crates/capi/out/libcapi.a -o target/search
  *     target/search
  */
 #include <inttypes.h>

@@ -1,8 +1,8 @@
 """Case A through the C interface (include/hopmap.h): prints four_devices/result.txt, and on standard
 error the census, how many devices stand at each distance.
 
-    rt staticlib capi
-    gcc -shared -o target/libhopmap.so -Wl,--whole-archive target/staticlib/libcapi.a -Wl,--no-whole-archive
+    (cd crates/capi && rt lib) && mkdir -p target
+    gcc -shared -o target/libhopmap.so -Wl,--whole-archive crates/capi/out/libcapi.a -Wl,--no-whole-archive
     python3 examples/search.py target/libhopmap.so
 """
 import sys

@@ -1,8 +1,8 @@
 /* The C interface of the proved library: reader, writer, search, checker and pages.
  *
- * To link: `rt staticlib capi` proves the library and writes target/staticlib/libcapi.a, for x86-64
- * Linux. It needs nothing but memcpy and memset of the C library. examples/search.c,
- * examples/check_and_page.c and examples/search.py show whole calls.
+ * To link: `rt lib` in the folder crates/capi proves the library and writes out/libcapi.a there, for
+ * x86-64 Linux (processors of level x86-64-v2 and above). It needs nothing but memcpy and memset of
+ * the C library. examples/search.c, examples/check_and_page.c and examples/search.py show whole calls.
  *
  * Words: n is the file's number of devices (1 to 4,096), m its number of links (0 to 32,768), P the
  * number of workers (1 to 8). The file is the hearing file, the schedule the sheet of event bytes

@@ -1,13 +1,15 @@
 #!/usr/bin/env python3
 """Brings the repository's own names to today's spelling, by the table tools/spelling.tsv (old, a tab, new).
 
-usage: tools/spelling.py            at the top of the repository, once, after the kit's port.py
-       tools/spelling.py --table    writes the table anew from what the .antt files declare
+usage: tools/spelling.py             at the top of the repository, once, after the kit's port.py
+       tools/spelling.py --dashes    the second table alone, tools/dashes.tsv
+       tools/spelling.py --table     writes the first table anew from what the .antt files declare
 
-A word is snake case: `badRows` becomes `bad_rows`. A dash stays where it joins two names of definitions
-(`length-offsets`), and becomes an underscore between plain words. Types and modules keep theirs. Whole words turn:
-in .antt files everywhere; in .rt files, edits and pages a word with a capital everywhere, a word with a dash in
-clauses, `ghost use` items, edits and code spans alone.
+A word is snake case: `badRows` becomes `bad_rows`, and a dash an underscore. The second table has the names of which
+each part is a name of its own (`length-offsets`); a dash is left where the name without it is another's. Types and
+modules keep theirs. Whole words turn: in .antt files everywhere; in .rt files, edits and pages a word with a capital
+everywhere, a word with a dash in clauses, `ghost use` items, edits and code spans alone. The second table spares
+comments but for their code spans, and pages that are records.
 """
 
 import collections
@@ -16,6 +18,9 @@ import re
 import sys
 
 TABLE = os.path.join(os.path.dirname(os.path.abspath(__file__)), "spelling.tsv")
+DASHES = os.path.join(os.path.dirname(TABLE), "dashes.tsv")
+COMMENT = re.compile(r"(?:(?<=\s)|^)(?:--|//)(?=\s).*$", re.M)
+RECORDS = ("./docs/landings/", "./docs/PORT", "./CHANGELOG.md")
 WORD = re.compile(r'[^\s(){}.;,@"«»`|\[\]]+')
 DECLARED = re.compile(
     r"^ *(?:pub |abbrev |unfoldable |ruleset |infix[lr]? \d+ )*([^\s(){}:,;.=|]+(?: [a-z][^\s(){}:,;.=|]*)*) :(?!=)", re.M
@@ -94,9 +99,42 @@ def turn(text, table):
     return WORD.sub(lambda m: table.get(m[0], m[0]), text)
 
 
+def turn_dashes():
+    table = dict(line.split("\t") for line in read(DASHES).splitlines())
+
+    def spans(text):
+        return re.sub(r"`[^`\n]*`", lambda m: turn(m[0], table), text)
+
+    count = 0
+    for path in files(".", (".antt", ".rt", ".edit", ".md")):
+        text, end, out = read(path), 0, ""
+        if path.startswith(RECORDS):
+            continue
+        if path.endswith(".md"):
+            out = spans(text)
+        elif path.endswith(".edit"):
+            out = turn(text, table)
+        else:
+            whole = path.endswith(".antt")
+            for m in COMMENT.finditer(text):
+                code = text[end : m.start()]
+                out += (turn(code, table) if whole else code) + spans(m[0])
+                end = m.end()
+            out += turn(text[end:], table) if whole else text[end:]
+            if not whole:
+                out = RUST_CLAUSE.sub(lambda m: turn(m[0], table), out)
+        if out != text:
+            count += 1
+            with open(path, "w", encoding="utf-8") as f:
+                f.write(out)
+    print(f"{count} files")
+
+
 def main(argv):
     if argv == ["--table"]:
         return make_table()
+    if argv == ["--dashes"]:
+        return turn_dashes()
     table = dict(line.split("\t") for line in read(TABLE).splitlines())
     capitals = {a: b for a, b in table.items() if re.search(r"[a-z][A-Z]", a) and "-" not in a}
     count = 0
@@ -115,6 +153,7 @@ def main(argv):
             with open(path, "w", encoding="utf-8") as f:
                 f.write(out)
     print(f"{count} files")
+    turn_dashes()
 
 
 main(sys.argv[1:])
