@@ -1,6 +1,6 @@
 // The list of sleepers (sleepy vertices), which comes with a file: whether a source and a list can be
-// taken, whether a vertex may pass messages on, and where a file ends that sleepers follow. These are
-// inner steps of the view, the search, the checker and the programs.
+// taken, whether a vertex may pass messages on, and where a file ends that sleepers follow. No crate
+// uses these steps yet.
 #![tactic(auto)]
 
 ghost use Rattle.std.specs.Prelude.{◌≡◌, ◌<◌, ◌≤◌, max, length};

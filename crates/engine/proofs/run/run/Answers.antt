@@ -107,7 +107,7 @@ moved c =
           (advanced_worked worker (between_now worker w.in_default.not-Free w.in_default-phase.not-Named) w.advance-next.ensures.by_index w.advance-next.ensures.histogram_after)
     ]
 
--- The needs.
+-- The goals.
 
 pub open-source_bag-requires : goal.open-source_bag-requires
 open-source_bag-requires c = record { source_in_bounds = source_there c.requires; sized = c.requires.sized }
