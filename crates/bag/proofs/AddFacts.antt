@@ -4,9 +4,10 @@ use native.Mathlib.Omega.{arith}
 use mathlib.Core.Path.{◌≡◌, refl}
 use mathlib.Core.Bool.{Bool, true, false, not, ◌&&◌, and-eq-true_iff}
 use mathlib.Core.List.{List, [], ◌∷◌}
-use lib.Dec.{eqb}
+use lib.Dec.{eqb, eqb-suc-zero}
 use borrow.Author.Tests.{eqb-true, not-true}
 use lib.ListN.{length, get_or, set}
+use mir.Val.{bool_byte as from_bool}
 use Rattle.lists.specs.Lists.{sum_of, reaches}
 use Rattle.lists.proofs.Tests.{reaches_at}
 use Rattle.pennant.specs.Bag.{adder_sum, adder_carry}
@@ -21,11 +22,11 @@ use Rattle.bag.proofs.Pairs.{link_pennant, link_kept}
 abbrev pub column_of : ℕ → ℕ → ℕ → ℕ → ℕ
 column_of column x y z = term x y z (entry_at (row_of x y z) column)
 
--- a node is there
-pub present_some : (x : ℕ) → (x ≡ 0 → ⊥) → 1 ≡ present x
+-- 1 for a node that is there
+pub present_bool : (x : ℕ) → from_bool (not (eqb x 0)) ≡ present x
 unfolding present
-present_some zero h = absurd (h refl)
-present_some (suc x) h = refl
+present_bool zero = refl
+present_bool (suc x) = rw (eqb-suc-zero x)
 
 -- the row as the code counts it
 pub row_whole : (x y z : ℕ) {a b c : ℕ} → a ≡ present x → b ≡ present y → c ≡ present z → a + 2 * b + 4 * c ≡ row_of x y z

@@ -1,21 +1,29 @@
--- Filled slots: whether there are any from slot k on, which of them is the first, and what the bag is then.
-use Prim.Native.Nat.{ℕ, zero, suc, ◌+◌, ◌-◌, ◌≤◌, ◌<◌}
+-- Filled slots: whether there are any, or any past slot 0, which of them is the first, and what the bag is then.
+use Prim.Native.Nat.{ℕ, zero, suc, ◌+◌, ◌≤◌, ◌<◌}
 use native.Mathlib.Omega.{arith}
 use native.Mathlib.Nat.{zero-add}
-use native.Mathlib.Numerals.{add-one}
 use mathlib.Core.Path.{◌≡◌, refl, sym, ap, ◌∙◌}
-use mathlib.Core.Bool.{Bool, true, false, not, ◌&&◌, and-true, and-false, true≢false}
+use mathlib.Core.Bool.{Bool, true, false, not, true≢false}
 use mathlib.Core.List.{List, [], ◌∷◌}
-use mathlib.Core.Logic.{◌⊎◌, inl, inr, ⊎_elim}
-use lib.ListN.{length, get_or, drop, drop_of_length-le}
+use lib.ListN.{length, get_or, drop, set, replicate, drop_of_length-le}
 use lib.Seq.{drop-cons}
+use lib.Dec.{eqb, eqb-suc-zero}
+use lib.Pointwise.{pointwise}
+use Rattle.std.proofs.Common.{Some}
+use Rattle.std.proofs.lemmas.Grind.{common_steps}
+use Rattle.std.specs.List.{position, position_or_len}
 use Rattle.pennant.specs.Pennant.{Slot, gap, tip}
-use Rattle.pennant.specs.Bag.{Bag, is_empty, at_least_two, spread, take_from, taken_number}
-use Rattle.bag.specs.Nodes.{tree_at, pennant_at, slot_nodes}
-use Rattle.bag.specs.Steps.{first_filled}
+use Rattle.pennant.specs.Bag.{is_empty, at_least_two, spread, take_from, taken_number}
+use Rattle.bag.specs.Nodes.{tree_at, pennant_at, slots_from, slot_nodes}
 use Rattle.bag.proofs.Kept.{length_nodes, nodes_at}
 use Rattle.bag.proofs.Pairs.{pennant_some}
 use Rattle.bag.proofs.PlaceFacts.{none_gap}
+
+-- the place of the first number other than 0, counted from k; past the end where all are 0
+unfoldable pub first_filled : ℕ → List ℕ → ℕ
+first_filled k [] = k
+first_filled k (zero ∷ xs) = first_filled (suc k) xs
+first_filled k (suc x ∷ xs) = k
 
 -- a number that is not 0 is found
 filled_first : (k x : ℕ) (xs : List ℕ) → (x ≡ 0 → ⊥) → first_filled k (x ∷ xs) ≡ k
@@ -38,31 +46,44 @@ module _ (slots : List ℕ) (k : ℕ) where
   filled_next : k < length slots → get_or slots k 0 ≡ 0 → first_filled k (drop k slots) ≡ first_filled (suc k) (drop (suc k) slots)
   filled_next h e = rw (drop-cons slots k 0 h) (empty_first k (get_or slots k 0) (drop (suc k) slots) e)
 
-  pub filled_pass : k < length slots → get_or slots k 0 ≡ 0 → first_filled k (drop k slots) ≡ first_filled (k + 1) (drop (k + 1) slots)
-  filled_pass h e = rw (add-one k) (filled_next h e)
-
--- nothing is found before the search starts
-pub filled_from : (k : ℕ) (xs : List ℕ) → k ≤ first_filled k xs
+-- how far the first number other than 0 is
+prefix_filled : (k : ℕ) (xs : List ℕ) → first_filled k xs ≡ k + position_or_len (λ x. not (eqb x 0)) xs
 unfolding first_filled
-filled_from k [] = omega arith
-filled_from k (zero ∷ xs) = omega (arith, filled_from (suc k) xs)
-filled_from k (suc x ∷ xs) = omega arith
+prefix_filled k [] = omega arith
+prefix_filled k (zero ∷ xs) = omega (arith, prefix_filled (suc k) xs)
+prefix_filled k (suc x ∷ xs) = rw (eqb-suc-zero x) (omega arith)
 
--- two or more are held where something is held past slot 0
-pub two_past : (s : Bag) → not (is_empty (drop 1 s)) ≡ at_least_two s
-unfolding is_empty at_least_two
-two_past [] = refl
-two_past (x ∷ s) = refl
+-- where some number is not 0, its position is found
+pub filled_position : (xs : List ℕ) → first_filled 0 xs < length xs → position (λ x. not (eqb x 0)) xs ≡ Some (first_filled 0 xs)
+filled_position xs h = let e = prefix_filled 0 xs in grind (arith, common_steps)
+
+-- Slots compared with as many empty ones.
+module _ (left right : List ℕ) where
+  -- nothing is held where all slots are empty
+  none_held : (k : ℕ) (slots : List ℕ) → pointwise eqb slots (replicate (length slots) 0) ≡ is_empty (slots_from left right k slots)
+  unfolding slots_from pennant_at is_empty
+  none_held k [] = refl
+  none_held k (zero ∷ slots) = none_held (suc k) slots
+  none_held k (suc x ∷ slots) = rw (eqb-suc-zero x)
+
+  pub is_none : (slots : List ℕ) {none : Bool} → length slots ≡ 16 → none ≡ pointwise eqb slots (replicate 16 0) → none ≡ is_empty (slot_nodes left right slots)
+  unfolding slot_nodes
+  is_none slots long e = e ∙ rw long at (none_held 0 slots)
+
+  -- two or more are held where some slot past slot 0 is filled
+  some_past : (slots : List ℕ) → not (pointwise eqb (set slots 0 0) (replicate (length slots) 0)) ≡ at_least_two (slot_nodes left right slots)
+  unfolding slot_nodes slots_from at_least_two
+  some_past [] = refl
+  some_past (x ∷ slots) = ap not (none_held 1 slots)
+
+  pub is_two : (slots : List ℕ) {two : Bool} → length slots ≡ 16 → two ≡ not (pointwise eqb (set slots 0 0) (replicate 16 0)) → two ≡ at_least_two (slot_nodes left right slots)
+  is_two slots long e = e ∙ rw long at (some_past slots)
 
 module _ (left right slots : List ℕ) (k : ℕ) where
   -- past the last slot the bag is empty
   nodes_end : length slots ≤ k → is_empty (drop k (slot_nodes left right slots)) ≡ true
   unfolding is_empty
   nodes_end h = ap is_empty (drop_of_length-le (slot_nodes left right slots) {i = k} (rw (length_nodes left right slots) h))
-
-  -- so no more is to be looked at
-  pub none_end : (none : Bool) → length slots ≤ k → none && is_empty (drop k (slot_nodes left right slots)) ≡ none
-  none_end none h = rw (nodes_end h) (and-true none)
 
   module _ (h : k < length slots) where
     slot_next : drop k (slot_nodes left right slots) ≡ pennant_at left right k (get_or slots k 0) ∷ drop (suc k) (slot_nodes left right slots)
@@ -76,16 +97,6 @@ module _ (left right slots : List ℕ) (k : ℕ) where
     slot_filled : (get_or slots k 0 ≡ 0 → ⊥)
         → drop k (slot_nodes left right slots) ≡ tip (get_or slots k 0) (tree_at left right k (get_or left (get_or slots k 0) 0)) ∷ drop (suc k) (slot_nodes left right slots)
     slot_filled f = slot_next ∙ ap (λ (x : Slot). x ∷ drop (suc k) (slot_nodes left right slots)) (pennant_some left right k (get_or slots k 0) f)
-
-    -- an empty slot is passed
-    pub none_pass : (none : Bool) → get_or slots k 0 ≡ 0 → none && is_empty (drop k (slot_nodes left right slots)) ≡ none && is_empty (drop (k + 1) (slot_nodes left right slots))
-    unfolding is_empty
-    none_pass none e = rw (slot_empty e, add-one k)
-
-    -- a filled one decides
-    pub none_filled : (none : Bool) → (get_or slots k 0 ≡ 0 → ⊥) → none && is_empty (drop k (slot_nodes left right slots)) ≡ false
-    unfolding is_empty
-    none_filled none f = rw (slot_filled f) (and-false none)
 
 module _ (left right : List ℕ) where
   -- the lowest filled slot r of those from k on
@@ -127,79 +138,3 @@ module _ (left right : List ℕ) where
   -- take goes by the first filled slot
   pub lowest_found : (slots : List ℕ) {r : ℕ} → r ≡ first_filled 0 slots → is_empty (slot_nodes left right slots) ≡ false → Lowest slots 0 r
   lowest_found slots e f = rw e (lowest_from slots (length slots) 0 (zero-add (length slots)) f)
-
--- Slots past slot 0, looked at in two rows: 1, 2, .. and 8, 9, ..
-
--- one side or the other
-side : (i k : ℕ) → (i ≤ k) ⊎ (k < i)
-side zero k = inl (omega arith)
-side (suc i) zero = inr (omega arith)
-side (suc i) (suc k) = ⊎_elim (λ le. inl (omega arith)) (λ lt. inr (omega arith)) (side i k)
-
-module _ (slots : List ℕ) where
-  -- two are held where a filled slot was met, else the first so many slots of either row are empty
-  pub record Seeking (two : Bool) (first second : ℕ) : Type 0 where
-    pub found : two ≡ true → (left right : List ℕ) → is_empty (drop 1 (slot_nodes left right slots)) ≡ false
-    pub passed_first : two ≡ false → (j : ℕ) → j < first → get_or slots (j + 1) 0 ≡ 0
-    pub passed_second : two ≡ false → (j : ℕ) → j < second → get_or slots (j + 8) 0 ≡ 0
-
-  -- something is held from slot k on where a slot there is filled
-  some_from : (left right : List ℕ) (n k j : ℕ) → k + n ≡ j → j < length slots → (get_or slots j 0 ≡ 0 → ⊥)
-      → is_empty (drop k (slot_nodes left right slots)) ≡ false
-  some_from left right zero k j e within filled =
-      none_filled left right slots k (omega arith) true (λ z. filled (ap (λ (i : ℕ). get_or slots i 0) (omega arith) ∙ z))
-  some_from left right (suc n) k j e within filled = go (some_from left right n (k + 1) j (omega arith) within filled) (get_or slots k 0) refl
-    where
-      go : is_empty (drop (k + 1) (slot_nodes left right slots)) ≡ false → (x : ℕ) → get_or slots k 0 ≡ x → is_empty (drop k (slot_nodes left right slots)) ≡ false
-      go later zero q = none_pass left right slots k (omega arith) true q ∙ later
-      go later (suc x) q = none_filled left right slots k (omega arith) true (λ z. omega arith)
-
-  -- nothing is where all of them are empty
-  none_from : (left right : List ℕ) (n k : ℕ) → k + n ≡ length slots → ((j : ℕ) → k ≤ j → j < length slots → get_or slots j 0 ≡ 0)
-      → is_empty (drop k (slot_nodes left right slots)) ≡ true
-  none_from left right zero k e empty = nodes_end left right slots k (omega arith)
-  none_from left right (suc n) k e empty =
-      none_pass left right slots k (omega arith) true (empty k (omega arith) (omega arith))
-      ∙ none_from left right n (k + 1) (omega arith) (λ j a b. empty j (omega arith) b)
-
-  -- before the first
-  pub seeking_start : Seeking false 0 0
-  seeking_start = record { found = λ e. absurd (true≢false (sym e)); passed_first = λ e j h. absurd (omega arith); passed_second = λ e j h. absurd (omega arith) }
-
-  -- a filled slot past slot 0
-  pub seeking_found : {first second : ℕ} (j : ℕ) → 1 ≤ j → j < length slots → (get_or slots j 0 ≡ 0 → ⊥) → Seeking true first second
-  seeking_found j past within filled = record {
-    found = λ e left right. some_from left right (j - 1) 1 j (omega arith) within filled;
-    passed_first = λ e. absurd (true≢false e);
-    passed_second = λ e. absurd (true≢false e);
-  }
-
-  module _ {two : Bool} {first second : ℕ} (so_far : Seeking two first second) where
-    -- the next one of the first row is empty
-    pub seeking_first : get_or slots (first + 1) 0 ≡ 0 → Seeking two (first + 1) second
-    seeking_first empty = record {
-      found = so_far.found;
-      passed_first = λ e j h. ⊎_elim (λ last. ap (λ (i : ℕ). get_or slots (i + 1) 0) (omega arith) ∙ empty) (λ below. so_far.passed_first e j below) (side first j);
-      passed_second = so_far.passed_second;
-    }
-
-    -- of the second
-    pub seeking_second : get_or slots (second + 8) 0 ≡ 0 → Seeking two first (second + 1)
-    seeking_second empty = record {
-      found = so_far.found;
-      passed_first = so_far.passed_first;
-      passed_second = λ e j h. ⊎_elim (λ last. ap (λ (i : ℕ). get_or slots (i + 8) 0) (omega arith) ∙ empty) (λ below. so_far.passed_second e j below) (side second j);
-    }
-
-  -- at the end of both rows all slots past slot 0 are looked at
-  pub seeking_done : (two : Bool) (k : ℕ) → length slots ≡ 16 → 8 ≤ k → Seeking two k k → (left right : List ℕ) → two ≡ at_least_two (slot_nodes left right slots)
-  seeking_done true k long all so_far left right = sym (ap not (so_far.found refl left right)) ∙ two_past (slot_nodes left right slots)
-  seeking_done false k long all so_far left right =
-      sym (ap not (none_from left right 15 1 (omega arith) (λ j past within. ⊎_elim (low j past) (high j within) (side j 8))))
-      ∙ two_past (slot_nodes left right slots)
-    where
-      low : (j : ℕ) → 1 ≤ j → j ≤ 8 → get_or slots j 0 ≡ 0
-      low j past below = ap (λ (i : ℕ). get_or slots i 0) (omega arith) ∙ so_far.passed_first refl (j - 1) (omega arith)
-
-      high : (j : ℕ) → j < length slots → 8 < j → get_or slots j 0 ≡ 0
-      high j within past = ap (λ (i : ℕ). get_or slots i 0) (omega arith) ∙ so_far.passed_second refl (j - 8) (omega (arith, long))

@@ -6,6 +6,8 @@ use mathlib.Core.Path.{◌≡◌, refl, sym, ap, ◌∙◌}
 use mathlib.Core.List.{List, [], ◌∷◌, ◌++◌, map, append_assoc}
 use lib.ListN.{length, get_or, take, drop, set, length-set, drop_of_length-le}
 use lib.Seq.{take-suc-set, drop-cons, take_all, take-suc, get_or-set_other}
+use Rattle.std.proofs.lemmas.List.{get_or-take}
+use Rattle.std.proofs.lemmas.Grind.{get_or_after_one}
 use Rattle.lists.specs.Lists.{sum_of}
 use Rattle.pennant.specs.Pennant.{Slot, gap, pennant_first, pennant_second}
 use Rattle.pennant.specs.Bag.{Bag}
@@ -19,6 +21,10 @@ use Rattle.bag.proofs.Kept.{drop_kept, take_kept, nodes_at, nodes_set, length_no
 use Rattle.bag.proofs.Pairs.{root_below, half_within}
 use Rattle.bag.proofs.Backbone.{weigh_parts, next_weighs}
 use Rattle.bag.proofs.PlaceFacts.{none_gap}
+
+-- the slots past slot 0
+pub next_slot : (slots : List ℕ) (k : ℕ) → k < 15 → get_or (take 15 (drop 1 slots)) k 0 ≡ get_or slots (suc k) 0
+next_slot slots k h = get_or-take 15 (drop 1 slots) k 0 h ∙ get_or_after_one slots k 0 ∙ ap (λ i. get_or slots i 0) (omega arith)
 
 -- one of the two bags that are made: before slot k as g makes it of the pennants one slot up, its last slot still empty
 pub record Filling (g : Slot → Slot) (left₀ right slots₀ left part : List ℕ) (k : ℕ) : Type 0 where

@@ -8,12 +8,6 @@ use Rattle.pennant.specs.Held.{weigh_slot, weigh, only, copies}
 use Rattle.bag.specs.Nodes.{pennant_at, slot_nodes}
 use Rattle.bag.specs.Promises.{in_pool}
 
--- the place of the first number other than 0, counted from k; past the end where all are 0
-unfoldable pub first_filled : ℕ → List ℕ → ℕ
-first_filled k [] = k
-first_filled k (zero ∷ xs) = first_filled (suc k) xs
-first_filled k (suc x ∷ xs) = k
-
 -- left after PENNANT-UNION of x and y, if there is an x
 unfoldable pub linked_left : ℕ → ℕ → List ℕ → List ℕ
 linked_left zero y left = left

@@ -31,7 +31,7 @@ fn filled(x: u16) -> usize
     ensures value { result ≡ present x }
     ensures upper_bound { result ≤ 1 }
 {
-    if x == 0 { 0 } else { 1 }
+    usize::from(x != 0)
 }
 
 // The row of x, y and z.
@@ -42,21 +42,13 @@ fn row_of(x: u16, y: u16, z: u16) -> usize
     filled(x) + 2 * filled(y) + 4 * filled(z)
 }
 
-// A byte as a number: a cast by itself, so that its user has none to prove.
-fn wide(byte: u8) -> usize
-    ensures { result ≡ byte }
-{
-    byte as usize
-}
-
 // What the table has in a row and a column.
 fn entry(row: usize, column: usize) -> usize
     requires row_bound { row < 8 }
     requires column_bound { column < 3 }
     ensures { result ≡ entry_at row column }
 {
-    let entries = TABLE[row];
-    wide(entries[column])
+    usize::from(TABLE[row][column])
 }
 
 // The pennant that this entry stands for.

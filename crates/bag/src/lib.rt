@@ -1,7 +1,8 @@
 // Bags of pennants (000, section 4) on three node lists that the caller lends: left and right child,
 // and the number that a node holds. Nodes are numbered from 1; 0 is none. The free nodes are chained
 // through left, from place 0 on, which is no node's. No operation walks a tree: each touches at most
-// the 16 slots of the bags it is given and, for a filled slot, one or two nodes.
+// the 16 slots of the bags it is given and, for a filled slot, one or two nodes. The three lists stay
+// parameters of their own: a struct lent mutably would have to say again that right and values stay.
 #![tactic(auto)]
 
 ghost use Rattle.std.specs.Prelude.{◌≡◌, ℕ, List, [], ◌∷◌};
@@ -44,40 +45,21 @@ pub fn empty() -> Bag
     Bag { slots: [0u16; 16] }
 }
 
-// Whether the bag is empty. The loop has no exit on the way, so that all slots are looked at together.
+// Whether the bag is empty. All slots are compared at once.
 pub fn is_empty(bag: Bag) -> bool
     ensures { (left right values : List ℕ) → Pooled left right (bag ∷ [])
         → result ≡ is_empty (held_by left right values bag) }
 {
-    let slots = bag.slots;
-    let mut none = true;
-    let mut k = 0;
-    while k < 16 {
-        if slots[k] != 0 {
-            none = false;
-        }
-        k += 1;
-    }
-    none
+    bag.slots == [0u16; 16]
 }
 
-// Whether the bag holds at least two numbers: a slot past slot 0 is filled. Two rows of eight slots
-// are looked at side by side, 1 to 8 and 8 to 15: a loop over 15 slots is compiled slot by slot.
+// Whether the bag holds at least two numbers: a slot past slot 0 is filled. All slots are compared at
+// once, slot 0 as an empty one.
 pub fn at_least_two(bag: Bag) -> bool
     ensures { (left right values : List ℕ) → Pooled left right (bag ∷ [])
         → result ≡ at_least_two (held_by left right values bag) }
 {
-    let slots = bag.slots;
-    let mut two = false;
-    let mut k = 0;
-    while k < 8 {
-        if slots[k + 1] != 0 {
-            two = true;
-        }
-        if slots[k + 8] != 0 {
-            two = true;
-        }
-        k += 1;
-    }
-    two
+    let mut slots = bag.slots;
+    slots[0] = 0;
+    slots != [0u16; 16]
 }

@@ -1,10 +1,10 @@
 // The operations on bags. They may assume a well-formed pool with the bags they are given; other bags
 // may stand in the same lists.
-ghost use Rattle.std.specs.Prelude.{◌≡◌, false, [], ◌∷◌, ◌<◌, ◌≤◌, length, get_or};
+ghost use Rattle.std.specs.Prelude.{◌≡◌, false, [], ◌∷◌, ◌<◌, ◌≤◌, length, get_or, position, not, ◌==◌};
 ghost use Rattle.pennant.specs.Bag.{is_empty};
 ghost use Rattle.bag.specs.Nodes.{held_by};
 ghost use Rattle.bag.specs.Promises.{Pooled, Inserted, United, SplitInto, TakenFrom};
-ghost use Rattle.bag.specs.Steps.{first_filled, Loose, Placed, Shifted, Spilled};
+ghost use Rattle.bag.specs.Steps.{Loose, Placed, Shifted, Spilled};
 
 use crate::adder::add;
 use crate::nodes::{allocate, halve, link, release};
@@ -18,15 +18,16 @@ fn place(bag: Bag, x: u16, left: &mut [u16], right: &mut [u16]) -> Bag
 {
     let mut slots = bag.slots;
     let mut root = x;
-    let mut k = 0;
-    while slots[k] != 0 {
-        let first = slots[k];
+    for slot in slots.iter_mut() {
+        let first = *slot;
+        if first == 0 {
+            *slot = root;
+            break;
+        }
         link(first, root, left, right);
         root = first;
-        slots[k] = 0;
-        k += 1;
+        *slot = 0;
     }
-    slots[k] = root;
     Bag { slots }
 }
 
@@ -51,14 +52,12 @@ pub fn union(a: Bag, b: Bag, left: &mut [u16], right: &mut [u16]) -> Bag
     let mut slots = a.slots;
     let others = b.slots;
     let mut carry: u16 = 0;
-    let mut k = 0;
-    while k < 16 {
-        if others[k] != 0 || carry != 0 {
-            let sum = add(slots[k], others[k], carry, left, right);
+    for (k, other) in others.iter().enumerate() {
+        if *other != 0 || carry != 0 {
+            let sum = add(slots[k], *other, carry, left, right);
             slots[k] = sum.slot;
             carry = sum.carry;
         }
-        k += 1;
     }
     Bag { slots }
 }
@@ -72,12 +71,9 @@ fn shift(bag: Bag, left: &mut [u16], right: &[u16]) -> Halves
     let slots = bag.slots;
     let mut first = [0u16; 16];
     let mut second = [0u16; 16];
-    let mut k = 0;
-    while k < 15 {
-        let root = slots[k + 1];
-        second[k] = halve(root, left, right);
-        first[k] = root;
-        k += 1;
+    for (k, root) in slots[1..].iter().enumerate() {
+        second[k] = halve(*root, left, right);
+        first[k] = *root;
     }
     Halves {
         first: Bag { slots: first },
@@ -116,25 +112,17 @@ fn spill(bag: Bag, from: usize, left: &mut [u16], right: &[u16]) -> Bag
     let mut slots = bag.slots;
     let root = slots[from];
     slots[from] = 0;
-    let mut k = from;
-    while 0 < k {
-        k -= 1;
+    for k in (0..from).rev() {
         slots[k] = halve(root, left, right);
     }
     Bag { slots }
 }
 
-// The lowest filled slot of a bag that has one: the loop needs no bound.
-fn lowest(bag: Bag) -> usize
-    requires { first_filled 0 bag.slots < 16 }
-    ensures { result ≡ first_filled 0 bag.slots }
+// The lowest filled slot, if there is one.
+fn lowest(bag: Bag) -> Option<usize>
+    ensures { result ≡ position (λ x. not (x == 0)) bag.slots }
 {
-    let slots = bag.slots;
-    let mut k = 0;
-    while slots[k] == 0 {
-        k += 1;
-    }
-    k
+    bag.slots.iter().position(|slot| *slot != 0)
 }
 
 // Takes the root of the pennant in the lowest filled slot and frees its node.
@@ -146,7 +134,7 @@ pub fn take(bag: Bag, left: &mut [u16], right: &[u16], values: &[u16]) -> Taken
         left.new result.bag result.value }
 {
     let slots = bag.slots;
-    let k = lowest(bag);
+    let k = lowest(bag).unwrap();
     let root = slots[k];
     let rest = spill(bag, k, left, right);
     release(root, left);

@@ -8,11 +8,11 @@ ghost use Rattle.bagkit.specs.Family.{Room};
 use crate::counts::raise;
 use bag::Bag;
 
-// What a take leaves, and the number taken.
+// What a take leaves, and the number taken; none from an empty bag.
 #[derive(Clone, Copy)]
 pub struct Drawn {
     pub bags: [Bag; 4],
-    pub value: u16,
+    pub value: Option<u16>,
 }
 
 // Chains the nodes free; four empty bags.
@@ -53,7 +53,7 @@ pub fn put(
     after
 }
 
-// Takes a number from bag i; 0 where the bag is empty.
+// Takes a number from bag i, where it has one.
 pub fn draw(bags: [Bag; 4], i: usize, left: &mut [u16], right: &[u16], values: &[u16]) -> Drawn
     requires pooled { Pooled left.old right.now bags }
     requires left_in_bounds { length left.old ≤ length values.now }
@@ -62,7 +62,7 @@ pub fn draw(bags: [Bag; 4], i: usize, left: &mut [u16], right: &[u16], values: &
 {
     let old = bags[i];
     if bag::is_empty(old) {
-        return Drawn { bags, value: 0 };
+        return Drawn { bags, value: None };
     }
     let taken = bag::take(old, left, right, values);
     let rest = taken.bag;
@@ -70,7 +70,7 @@ pub fn draw(bags: [Bag; 4], i: usize, left: &mut [u16], right: &[u16], values: &
     after[i] = rest;
     Drawn {
         bags: after,
-        value: taken.value,
+        value: Some(taken.value),
     }
 }
 
@@ -128,12 +128,10 @@ pub fn fill(
     ensures { Pooled left.new right.new result }
 {
     let mut filled = bags;
-    let mut k: u16 = 0;
-    while k < count {
-        let value = std::num::wrapping_add_u16(first, k);
+    for k in 0..count {
+        let value = first.wrapping_add(k);
         let after = put(filled, i, value, left, right, values);
         filled = after;
-        k += 1;
     }
     filled
 }
@@ -153,7 +151,7 @@ pub fn two_filled(
 {
     let none = start(left, right, nodes);
     let one = fill(none, 0, from, first, left, right, values);
-    let next = std::num::wrapping_add_u16(from, first);
+    let next = from.wrapping_add(first);
     fill(one, 1, next, second, left, right, values)
 }
 
@@ -173,12 +171,12 @@ pub fn drain(
     ensures { Pooled left.new right.now result }
 {
     let mut rest = bags;
-    let mut k: u16 = 0;
-    while k < count {
+    for _ in 0..count {
         let drawn = draw(rest, i, left, right, values);
         rest = drawn.bags;
-        raise(counts, drawn.value as usize);
-        k += 1;
+        if let Some(value) = drawn.value {
+            raise(counts, usize::from(value));
+        }
     }
     rest
 }

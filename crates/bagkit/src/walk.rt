@@ -3,14 +3,8 @@
 // its slot alone. Every place is guarded, so that a bag with faults is walked
 // to an end too.
 use bag::Bag;
+pub use testkit::contents::put as store;
 use testkit::words::{at, at_place};
-
-// Stores the value; past the end nothing.
-pub fn store(list: &mut [u16], place: usize, value: u16) {
-    if place < list.len() {
-        list[place] = value;
-    }
-}
 
 // The place-th node of a pennant from its parent: the root has a left child alone, and below it the
 // children of the node at place p stand at 2p and 2p + 1.
@@ -28,12 +22,13 @@ fn child(parent: u16, place: usize, left: &[u16], right: &[u16]) -> u16 {
 // Writes the nodes of a pennant of `size` nodes, from the place `start` on.
 fn pennant(root: u16, size: usize, left: &[u16], right: &[u16], nodes: &mut [u16], start: usize) {
     store(nodes, start, root);
-    let mut place = 1;
-    while place < size {
-        let parent = at_place(nodes, std::num::wrapping_add_usize(start, place / 2));
-        let node = child(parent, place, left, right);
-        store(nodes, std::num::wrapping_add_usize(start, place), node);
-        place += 1;
+    for place in 1..size {
+        let parent = at_place(nodes, start.wrapping_add(place / 2));
+        store(
+            nodes,
+            start.wrapping_add(place),
+            child(parent, place, left, right),
+        );
     }
 }
 
@@ -50,19 +45,16 @@ fn slot(
         return count;
     }
     pennant(root, size, left, right, nodes, count);
-    std::num::wrapping_add_usize(count, size)
+    count.wrapping_add(size)
 }
 
 // Writes the nodes of a bag, and says how many there are.
 pub fn nodes_of(bag: Bag, left: &[u16], right: &[u16], nodes: &mut [u16]) -> usize {
-    let slots = bag.slots;
     let mut count = 0;
-    let mut size = 1;
-    let mut k = 0;
-    while k < 16 {
-        count = slot(slots[k], size, left, right, nodes, count);
-        size = std::num::wrapping_add_usize(size, size);
-        k += 1;
+    let mut size: usize = 1;
+    for root in bag.slots {
+        count = slot(root, size, left, right, nodes, count);
+        size = size.wrapping_add(size);
     }
     count
 }
@@ -71,30 +63,19 @@ pub fn nodes_of(bag: Bag, left: &[u16], right: &[u16], nodes: &mut [u16]) -> usi
 // there are.
 pub fn free_nodes(left: &[u16], nodes: &mut [u16]) -> usize {
     let mut node = at(left, 0);
-    let mut count = 0;
-    while count < left.len() {
+    for count in 0..left.len() {
         if node == 0 {
             return count;
         }
         store(nodes, count, node);
         node = at(left, node);
-        count += 1;
     }
-    count
+    left.len()
 }
 
 // Which slots are filled: slot k counts 2^k.
 pub fn filled(bag: Bag) -> usize {
-    let slots = bag.slots;
-    let mut sum = 0;
-    let mut size = 1;
-    let mut k = 0;
-    while k < 16 {
-        if slots[k] != 0 {
-            sum = std::num::wrapping_add_usize(sum, size);
-        }
-        size = std::num::wrapping_add_usize(size, size);
-        k += 1;
-    }
-    sum
+    bag.slots.iter().rev().fold(0, |sum: usize, root| {
+        sum.wrapping_mul(2).wrapping_add(usize::from(*root != 0))
+    })
 }

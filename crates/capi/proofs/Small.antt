@@ -16,8 +16,7 @@ use Rattle.numbers.proofs.First.{first_under}
 use Rattle.lists.specs.Lists.{some_one}
 use Rattle.graph.specs.Graph.{Graph}
 use Rattle.graph.specs.File.{graph_of}
-use Rattle.graph.specs.Read.{ReadOutcome, header_refusals, scan_refusals, chain_refusals, read_refusals, read_number, answer_with, read_outcome_by, read_exit, outcome_of_read}
-use Rattle.graph.specs.declared.ReadAnswer.{ReadAnswer}
+use Rattle.graph.specs.Read.{ReadOutcome, ReadAnswer, header_refusals, scan_refusals, chain_refusals, read_refusals, read_number, answer_with, read_outcome_by, read_exit, outcome_of_read}
 use Rattle.graph.proofs.WellFormed.{header_sized, read_taken}
 use Rattle.schedule.specs.Events.{event_of}
 use Rattle.schedule.specs.Check.{schedule_refusals}
@@ -25,10 +24,9 @@ use Rattle.schedule.proofs.Schedules.{schedule_passed}
 use Rattle.model.specs.State.{State}
 use Rattle.model.specs.Table.{act}
 use Rattle.model.specs.Play.{Run, step, play_from, opening_run, play, state_at}
-use Rattle.model.specs.Call.{Lent, Outcome, early_refusals, input_refusals, search_refusals, search_number, plays, outcome_of_search}
+use Rattle.model.specs.Call.{Lent, Outcome, Answer, early_refusals, input_refusals, search_refusals, search_number, plays, outcome_of_search}
 use Rattle.model.proofs.Plays.{tally_counts, step_over, step_on}
 use Rattle.model.proofs.Calls.{call_passed, call_parts, call_sizes, call_demand, call_played, call_refused}
-use Rattle.engine.specs.declared.Answer.{Answer}
 use Rattle.search.specs.Promise.{search_exit}
 use Rattle.capi.specs.Answers.{ReadSmall, SearchSmall}
 

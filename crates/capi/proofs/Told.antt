@@ -1,12 +1,20 @@
 -- What a call promises of its answer holds of the answer that stands in the caller's list, since the two are the same.
-use mathlib.Core.Path.{◌≡◌, sym, ap, ◌∙◌, subst}
+use mathlib.Core.Path.{◌≡◌, refl, sym, ap, ◌∙◌, subst}
 use mathlib.Core.List.{List}
 use Prim.Native.Nat.{ℕ}
-use Rattle.graph.specs.Read.{ReadOutcome, read_exit}
-use Rattle.graph.specs.declared.ReadAnswer.{ReadAnswer}
-use Rattle.model.specs.Call.{Lent, outcome_of_search}
-use Rattle.engine.specs.declared.Answer.{Answer}
+use Rattle.std.specs.Prelude.{Result, Ok, Err}
+use Rattle.numbers.specs.Told.{told}
+use Rattle.numbers.specs.declared.refused.Refused.{Refused}
+use Rattle.graph.specs.Answers.{answer_of}
+use Rattle.graph.specs.Read.{ReadOutcome, ReadAnswer, read_exit}
+use Rattle.graph.specs.declared.survey.Survey.{Survey}
+use Rattle.model.specs.Call.{Lent, Answer, outcome_of_search}
 use Rattle.search.specs.Promise.{search_exit, Kept}
+
+-- the number of a read's answer
+pub read_number_told : (r : Result Survey Refused) → told r ≡ (answer_of r).number
+read_number_told (Ok survey) = refl
+read_number_told (Err refused) = refl
 
 -- of a read
 pub read_told : {x r : ReadAnswer} {offsets targets marks : List ℕ} {o : ReadOutcome} → x ≡ r → read_exit r offsets targets marks ≡ o

@@ -4,8 +4,8 @@
 -- answer are, so that each fits its place.
 use Rattle.std.specs.Prelude.{List, ℕ, ◌≤◌, ◌<◌, get_or}
 use Rattle.numbers.specs.Numbers.{max_vertices, max_edges, max_events, short_list, unfinished}
-use Rattle.graph.specs.declared.ReadAnswer.{ReadAnswer}
-use Rattle.engine.specs.declared.Answer.{Answer}
+use Rattle.graph.specs.Read.{ReadAnswer}
+use Rattle.model.specs.Call.{Answer}
 
 -- the reader's answer that stands in a list: number, n, m (§13.2)
 abbrev pub read_answer_in : List ℕ → ReadAnswer

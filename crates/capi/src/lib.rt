@@ -4,9 +4,12 @@
 #![tactic(auto)]
 
 ghost use Rattle.std.specs.Prelude.{◌≡◌, ◌<◌};
+ghost use Rattle.numbers.specs.Told.{told};
+ghost use Rattle.graph.specs.Answers.{answer_of as graph·answer_of};
 ghost use Rattle.graph.specs.Read.{outcome_of_read, read_exit};
 ghost use Rattle.graph.specs.Write.{outcome_of_write, write_exit};
 ghost use Rattle.model.specs.Call.{outcome_of_search};
+ghost use Rattle.search.specs.Answers.{answer_of as search·answer_of};
 ghost use Rattle.search.specs.Promise.{search_exit, Kept};
 ghost use Rattle.search.specs.Promise.{lent_lists as search·lent_lists};
 ghost use Rattle.verify.specs.Check.{outcome_of_check};
@@ -15,8 +18,9 @@ ghost use Rattle.page.specs.Page.{outcome_of_page};
 ghost use Rattle.page.specs.Promise.{page_exit, OnPaper};
 ghost use Rattle.capi.specs.Answers.{read_answer_in, answer_in, ReadSmall, SearchSmall};
 
-use engine::Answer;
-use graph::ReadAnswer;
+use graph::Survey;
+use numbers::{Refused, told};
+use search::Answer;
 
 // A number that 32 bits hold, in 32 bits.
 fn narrow(x: usize) -> u32
@@ -28,29 +32,31 @@ fn narrow(x: usize) -> u32
 
 // The reader's answer, into the caller's list. Every answer of the reader's is small: `read_small`
 // in proofs/Small.antt.
-fn tell_read(told: ReadAnswer, answer: &mut [u32; 3])
-    requires { ReadSmall told }
-    ensures { read_answer_in answer.new ≡ told }
+fn tell_read(read: &Result<Survey<'_>, Refused>, answer: &mut [u32; 3])
+    requires { ReadSmall (graph·answer_of read.now) }
+    ensures { read_answer_in answer.new ≡ graph·answer_of read.now }
 {
-    *answer = [
-        narrow(told.number),
-        narrow(told.vertices),
-        narrow(told.edges),
-    ];
+    *answer = match read {
+        Ok(survey) => [0, narrow(survey.vertices), narrow(survey.edges)],
+        Err(refused) => [narrow(refused.number()), 0, 0],
+    };
 }
 
 // The search's answer, into the caller's list. Every answer of the search's is small: `search_small`
 // in proofs/Small.antt.
-fn tell_search(told: Answer, answer: &mut [u32; 4])
-    requires { SearchSmall told }
-    ensures { answer_in answer.new ≡ told }
+fn tell_search(found: &Result<Answer, Refused>, answer: &mut [u32; 4])
+    requires { SearchSmall (search·answer_of found.now) }
+    ensures { answer_in answer.new ≡ search·answer_of found.now }
 {
-    *answer = [
-        narrow(told.number),
-        narrow(told.used),
-        narrow(told.effective),
-        narrow(told.layer),
-    ];
+    *answer = match found {
+        Ok(run) => [
+            narrow(run.ending.number()),
+            narrow(run.used),
+            narrow(run.effective),
+            narrow(run.layer),
+        ],
+        Err(refused) => [narrow(refused.number()), 0, 0, 0],
+    };
 }
 
 // `graph::read`; the answer's list gets number, n and m.
@@ -67,8 +73,8 @@ pub extern "C" fn hopmap_read(
     ensures value { result ≡ (read_answer_in answer.new).number }
 {
     let read = graph::read(file, offsets, targets, marks);
-    tell_read(read, answer);
-    read.number
+    tell_read(&read, answer);
+    told(&read)
 }
 
 // `writer::write`.
@@ -77,7 +83,7 @@ pub extern "C" fn hopmap_write(offsets: &[u16], targets: &[u16], file: &mut [u8]
     ensures { write_exit result file.new
         ≡ outcome_of_write offsets.now targets.now file.old }
 {
-    writer::write(offsets, targets, file)
+    told(&writer::write(offsets, targets, file))
 }
 
 // `search::search`; the answer's list gets number, events used, effective events and d.
@@ -116,8 +122,8 @@ pub extern "C" fn hopmap_search(
         file, source, workers, schedule, offsets, targets, marks, distances, parents, census, left,
         right, values,
     );
-    tell_search(found, answer);
-    found.number
+    tell_search(&found, answer);
+    search::number(&found)
 }
 
 // `verify::check`.
@@ -138,7 +144,7 @@ pub extern "C" fn hopmap_check(
         (lent_lists offsets.old targets.old marks.old)
         result }
 {
-    verify::check(file, source, distances, parents, offsets, targets, marks)
+    told(&verify::check(file, source, distances, parents, offsets, targets, marks))
 }
 
 // `page::page`.
@@ -159,7 +165,7 @@ pub extern "C" fn hopmap_page(
         bytes.old }
     ensures on_paper { OnPaper file.now source distances.now parents.now result bytes.new }
 {
-    page::page(
+    told(&page::page(
         file, source, distances, parents, offsets, targets, marks, bytes,
-    )
+    ))
 }

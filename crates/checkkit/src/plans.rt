@@ -26,7 +26,7 @@ fn drawn(start: u64, most: u16, least: u16, more: u16) -> Plan {
     let vertices = after(below(seed, most));
     Plan {
         vertices,
-        edges: std::num::wrapping_add_u16(least, below(second, more)),
+        edges: least.wrapping_add(below(second, more)),
         source: below(third, vertices),
         seed: leap(third),
     }
@@ -34,7 +34,7 @@ fn drawn(start: u64, most: u16, least: u16, more: u16) -> Plan {
 
 // A graph of up to 40 vertices and 120 edges; every second one has 80 edges or more.
 pub fn small(case: u16) -> Plan {
-    let start = case as u64 + 500;
+    let start = u64::from(case) + 500;
     if case % 2 == 0 {
         drawn(start, 40, 0, 121)
     } else {
@@ -44,7 +44,7 @@ pub fn small(case: u16) -> Plan {
 
 // A graph of up to 160 vertices and 480 edges.
 pub fn medium(case: u16) -> Plan {
-    drawn(case as u64 + 900, 160, 0, 481)
+    drawn(u64::from(case) + 900, 160, 0, 481)
 }
 
 // A graph of this size, with source 0.
@@ -57,9 +57,10 @@ pub fn sized(vertices: u16, edges: u16) -> Plan {
     }
 }
 
-// The length of a list with this need: one short, at its need, or five places longer.
+// The length of a list with this need: one short, at its need, or five places longer. The choice is a
+// digit of a case's number, so an enum of it would be made here alone.
 pub fn length(need: usize, choice: u16) -> usize {
-    std::num::wrapping_sub_usize(std::num::wrapping_add_usize(need, extra(choice)), 1)
+    need.wrapping_add(extra(choice)).wrapping_sub(1)
 }
 
 // The combination's digits to the base 3 are the lists' choices.
@@ -71,17 +72,14 @@ pub fn lent(plan: Plan, combination: u16) -> Lengths {
         marks: length(need.marks, combination / 9 % 3),
         distances: length(need.distances, combination / 27 % 3),
         parents: length(need.parents, combination / 81 % 3),
-        histogram: 0,
-        left: 0,
-        right: 0,
-        values: 0,
+        ..Lengths::default()
     }
 }
 
 // Whether a list is shorter than its need.
 fn is_short(plan: Plan, lengths: Lengths) -> bool {
-    let n = plan.vertices as usize;
-    let m = plan.edges as usize;
+    let n = usize::from(plan.vertices);
+    let m = usize::from(plan.edges);
     let rows = (lengths.offsets <= n) | (lengths.targets < m) | (lengths.marks < m);
     rows | (lengths.distances < n) | (lengths.parents < n)
 }

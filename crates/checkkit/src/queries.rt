@@ -14,6 +14,13 @@ pub struct Query {
     pub number: usize,
 }
 
+// A result: the distance and the parent of each vertex.
+#[derive(Clone, Copy)]
+pub struct Labels<'a> {
+    pub distances: &'a [u16],
+    pub parents: &'a [u16],
+}
+
 // Whether the lists are as a check with this number leaves them: with 0 and 10 the rows are written
 // and the first m marks are 0; with 5 and 6 only those marks are; else nothing is changed.
 pub fn is_left(
@@ -25,8 +32,8 @@ pub fn is_left(
     row_targets: &[u16],
 ) -> bool {
     if (query.number == 0) | (query.number == 10) {
-        let n = query.vertices as usize;
-        let m = query.edges as usize;
+        let n = usize::from(query.vertices);
+        let m = usize::from(query.edges);
         return are_rows(offsets, targets, marks, rows, row_targets, n, m);
     }
     let zeros = cleared(query.number, query.edges);

@@ -1,30 +1,40 @@
 // Whole results: right ones, and ones that are wrong as a whole, each kind by one of the checker's
 // rules.
 use crate::plans::Plan;
+pub use searchkit::labels::UNSET;
 use searchkit::labels::View;
 use searchkit::{labels, queue};
 use testkit::random::{below, leap, next};
 use testkit::sample::after;
 use testkit::words::{at, put};
 
-// An unset distance or parent.
-pub const UNSET: u16 = 65535;
+// Right results, and ones that are wrong as a whole.
+#[derive(Clone, Copy, PartialEq, Eq)]
+pub enum Kind {
+    Right,
+    // Real paths that need not be shortest.
+    Longer,
+    // A second source.
+    Second,
+    // Right for another source.
+    Another,
+    // No labels after a drawn layer.
+    Cut,
+    // Every distance one more.
+    Shifted,
+}
 
-// Kinds of results: right; real paths that need not be shortest; a second source; right for another
-// source; no labels after a drawn layer; every distance one more.
-pub const RIGHT: u16 = 0;
+// All kinds; and those that are neither right nor longer paths.
+pub const KINDS: [Kind; 6] = [
+    Kind::Right,
+    Kind::Longer,
+    Kind::Second,
+    Kind::Another,
+    Kind::Cut,
+    Kind::Shifted,
+];
 
-pub const LONGER: u16 = 1;
-
-pub const SECOND: u16 = 2;
-
-pub const ANOTHER: u16 = 3;
-
-pub const CUT: u16 = 4;
-
-pub const SHIFTED: u16 = 5;
-
-pub const KINDS: u16 = 6;
+pub const OTHERS: [Kind; 4] = [Kind::Second, Kind::Another, Kind::Cut, Kind::Shifted];
 
 // Makes the edge's source the parent of its target, where that is one farther: the first time
 // always, later by the toss of a coin.
@@ -48,13 +58,11 @@ fn draw_parents(
     distances: &[u16],
     parents: &mut [u16],
 ) {
-    let mut edge: u16 = 0;
     let mut state = leap(plan.seed);
-    while edge < plan.edges {
+    for edge in 0..plan.edges {
         state = next(state);
         let source = at(sources, edge);
         offer(source, at(row_targets, edge), distances, parents, state);
-        edge += 1;
     }
 }
 
@@ -107,11 +115,9 @@ fn sweep(
     distances: &mut [u16],
     parents: &mut [u16],
 ) {
-    let mut edge: u16 = 0;
-    while edge < edges {
+    for edge in 0..edges {
         let source = at(sources, edge);
         follow(source, at(row_targets, edge), distances, parents);
-        edge += 1;
     }
 }
 
@@ -125,46 +131,42 @@ fn grow(
 ) {
     put(distances, plan.source, 0);
     put(parents, plan.source, plan.source);
-    let mut vertex: u16 = 0;
-    while vertex < plan.vertices {
+    for _ in 0..plan.vertices {
         sweep(plan.edges, sources, row_targets, distances, parents);
-        vertex += 1;
     }
 }
 
-// A label of a kind in place of a right one: unset beyond the layer, or one more.
-fn changed(kind: u16, distance: u16, layer: u16, label: u16, more: u16) -> u16 {
-    if kind == CUT {
-        return if layer < distance { UNSET } else { label };
+// Takes all labels beyond the layer away.
+fn cut(layer: u16, vertices: u16, distances: &mut [u16], parents: &mut [u16]) {
+    let labels = distances.iter_mut().zip(parents.iter_mut());
+    for (distance, parent) in labels.take(usize::from(vertices)) {
+        if layer < *distance {
+            *distance = UNSET;
+            *parent = UNSET;
+        }
     }
-    if kind == SHIFTED { more } else { label }
+}
+
+// Makes every distance one more.
+fn shift(vertices: u16, distances: &mut [u16]) {
+    for distance in distances.iter_mut().take(usize::from(vertices)) {
+        *distance = after(*distance);
+    }
 }
 
 // Changes all labels as the kind says.
-fn relabel(kind: u16, plan: Plan, distances: &mut [u16], parents: &mut [u16]) {
-    let layer = below(leap(plan.seed), 4);
-    let mut vertex: u16 = 0;
-    while vertex < plan.vertices {
-        let distance = at(distances, vertex);
-        let parent = at(parents, vertex);
-        put(
-            distances,
-            vertex,
-            changed(kind, distance, layer, distance, after(distance)),
-        );
-        put(
-            parents,
-            vertex,
-            changed(kind, distance, layer, parent, parent),
-        );
-        vertex += 1;
+fn relabel(kind: Kind, plan: Plan, distances: &mut [u16], parents: &mut [u16]) {
+    match kind {
+        Kind::Cut => cut(below(leap(plan.seed), 4), plan.vertices, distances, parents),
+        Kind::Shifted => shift(plan.vertices, distances),
+        _ => {}
     }
 }
 
 // A result by queue searches from two sources, which are the same for all kinds but one: the second
 // search then finds nothing new.
 fn search_twice(
-    kind: u16,
+    kind: Kind,
     plan: Plan,
     sources: &[u16],
     rows: &[u16],
@@ -173,17 +175,20 @@ fn search_twice(
     parents: &mut [u16],
 ) {
     let other = below(leap(leap(plan.seed)), plan.vertices);
-    let start = if kind == ANOTHER { other } else { plan.source };
-    let second = if kind == SECOND { other } else { start };
+    let start = if kind == Kind::Another {
+        other
+    } else {
+        plan.source
+    };
+    let second = if kind == Kind::Second { other } else { start };
     fill(start, plan, sources, rows, row_targets, distances, parents);
     fill(second, plan, sources, rows, row_targets, distances, parents);
     relabel(kind, plan, distances, parents);
 }
 
-// A result of a kind; a right one where the kind is none of whole results. All labels are unset
-// before.
+// A result of a kind. All labels are unset before.
 fn label(
-    kind: u16,
+    kind: Kind,
     plan: Plan,
     sources: &[u16],
     rows: &[u16],
@@ -191,7 +196,7 @@ fn label(
     distances: &mut [u16],
     parents: &mut [u16],
 ) {
-    if kind == LONGER {
+    if kind == Kind::Longer {
         grow(plan, sources, row_targets, distances, parents);
     } else {
         search_twice(kind, plan, sources, rows, row_targets, distances, parents);
@@ -200,34 +205,26 @@ fn label(
 
 // Rubbish: 0, unset, a small number, or any.
 fn rubbish(seed: u64) -> u16 {
-    let choice = below(seed, 4);
-    if choice == 0 {
-        return 0;
+    match below(seed, 4) {
+        0 => 0,
+        1 => UNSET,
+        2 => below(next(seed), 40),
+        _ => below(next(seed), UNSET),
     }
-    if choice == 1 {
-        return UNSET;
-    }
-    below(next(seed), if choice == 2 { 40 } else { UNSET })
 }
 
 // Eight places of rubbish from this one on.
 fn spoil(list: &mut [u16], from: u16, seed: u64) {
-    let mut count: u16 = 0;
     let mut state = seed;
-    while count < 8 {
+    for x in list.iter_mut().skip(usize::from(from)).take(8) {
         state = next(state);
-        put(
-            list,
-            std::num::wrapping_add_u16(from, count),
-            rubbish(state),
-        );
-        count += 1;
+        *x = rubbish(state);
     }
 }
 
 // A result of a kind, with rubbish behind the first n places of both lists. All labels are unset before.
 pub fn make(
-    kind: u16,
+    kind: Kind,
     plan: Plan,
     sources: &[u16],
     rows: &[u16],
@@ -261,7 +258,7 @@ pub fn number(
 
 // A result of a kind, as `make` makes it; the answer is its number.
 pub fn make_judged(
-    kind: u16,
+    kind: Kind,
     plan: Plan,
     sources: &[u16],
     rows: &[u16],

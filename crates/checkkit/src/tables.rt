@@ -3,8 +3,9 @@ use crate::queries::Query;
 use searchkit::base::FILE;
 use searchkit::requests::{Lengths, needs};
 use searchkit::{faults, refusals};
+use testkit::contents;
 use testkit::files::put_words;
-use testkit::words::put;
+use testkit::words::{put, row_of};
 
 // A vertex, its distance and its parent in a result for case A: five wrong results, two right ones.
 const LABEL_TABLE: [[u16; 3]; 7] = [
@@ -28,11 +29,12 @@ pub const GOOD: u16 = 5;
 
 // The tables, and how many cases each has: all results with each of 36 files, and with each of 12
 // sources; every set of ten faults with each of five lists and wrong results.
-pub const REFUSAL_TABLE: u16 = 0;
-
-pub const SOURCE_TABLE: u16 = 1;
-
-pub const FAULT_TABLE: u16 = 2;
+#[derive(Clone, Copy)]
+pub enum Table {
+    Refusals,
+    Sources,
+    Faults,
+}
 
 pub const REFUSAL_CASES: u16 = 252;
 
@@ -73,27 +75,11 @@ const STARTS: [usize; 12] = [
     18446744073709551615,
 ];
 
-// A place of the table of labels; 0 outside it.
-fn label(row: u16, column: usize) -> u16 {
-    let i = row as usize;
-    if i < 7 {
-        if column < 3 {
-            return LABEL_TABLE[i][column];
-        }
-    }
-    0
-}
-
-// A source of the table; 0 outside it.
-fn start(row: u16) -> usize {
-    let i = row as usize;
-    if i < 12 { STARTS[i] } else { 0 }
-}
-
 // Gives one vertex the labels of a row of the table.
 pub fn put_labels(labels: u16, distances: &mut [u16], parents: &mut [u16]) {
-    put(distances, label(labels, 0), label(labels, 1));
-    put(parents, label(labels, 0), label(labels, 2));
+    let [vertex, distance, parent] = row_of(&LABEL_TABLE, labels);
+    put(distances, vertex, distance);
+    put(parents, vertex, parent);
 }
 
 // The number where it is a refusal's, else 0 or 10 by the result.
@@ -101,7 +87,7 @@ fn number_of(refusal: u16, labels: u16) -> usize {
     if refusal == 0 {
         return if labels < GOOD { 10 } else { 0 };
     }
-    refusal as usize
+    usize::from(refusal)
 }
 
 // The query of another file.
@@ -129,16 +115,17 @@ fn refusal(case: u16, file: &mut [u8]) -> Case {
 
 // The number of a source: no result is right for another vertex than 0.
 fn number_from(row: u16, labels: u16) -> usize {
-    if row == 0 {
-        return number_of(0, labels);
+    match row {
+        0 => number_of(0, labels),
+        1..=3 => 10,
+        _ => 7,
     }
-    if row < 4 { 10 } else { 7 }
 }
 
 // The query of another source.
 fn source_query(row: u16, labels: u16) -> Query {
     Query {
-        source: start(row),
+        source: contents::at(&STARTS, usize::from(row)),
         vertices: 4,
         edges: 4,
         file: 28,
@@ -156,28 +143,17 @@ fn source(case: u16, file: &mut [u8]) -> Case {
     }
 }
 
-// The need, or one less where this is the short list.
-fn length(need: usize, list: u16, short: u16) -> usize {
-    if list == short {
-        std::num::wrapping_sub_usize(need, 1)
-    } else {
-        need
-    }
-}
-
 // The lists at their need, but the short one.
 fn lent(short: u16) -> Lengths {
     let need = needs(4, 4, 1, 0);
+    let length = |need: usize, list: u16| need.wrapping_sub(usize::from(list == short));
     Lengths {
-        offsets: length(need.offsets, 0, short),
-        targets: length(need.targets, 1, short),
-        marks: length(need.marks, 2, short),
-        distances: length(need.distances, 3, short),
-        parents: length(need.parents, 4, short),
-        histogram: 0,
-        left: 0,
-        right: 0,
-        values: 0,
+        offsets: length(need.offsets, 0),
+        targets: length(need.targets, 1),
+        marks: length(need.marks, 2),
+        distances: length(need.distances, 3),
+        parents: length(need.parents, 4),
+        ..Lengths::default()
     }
 }
 
@@ -195,12 +171,16 @@ fn fault_query(combination: u16, choice: u16) -> Query {
     let request = faults::request_of(combination);
     let number = faults::expected(combination);
     Query {
-        source: request.source as usize,
+        source: usize::from(request.source),
         vertices: 4,
         edges: 4,
         file: request.file,
         lengths: lent(chosen(combination, 256, choice)),
-        number: if number == 21 { 10 } else { number as usize },
+        number: if number == 21 {
+            10
+        } else {
+            usize::from(number)
+        },
     }
 }
 
@@ -218,12 +198,10 @@ fn fault(case: u16, file: &mut [u8]) -> Case {
 }
 
 // A case of a table, with its file, which has up to 32 bytes.
-pub fn make(table: u16, case: u16, file: &mut [u8]) -> Case {
-    if table == REFUSAL_TABLE {
-        return refusal(case, file);
+pub fn make(table: Table, case: u16, file: &mut [u8]) -> Case {
+    match table {
+        Table::Refusals => refusal(case, file),
+        Table::Sources => source(case, file),
+        Table::Faults => fault(case, file),
     }
-    if table == SOURCE_TABLE {
-        return source(case, file);
-    }
-    fault(case, file)
 }

@@ -40,7 +40,7 @@ use Rattle.workers.proofs.CrewFacts.{crew_long, crew_at, crew_outputs}
 use Rattle.workers.proofs.IdleFacts.{all_empty, idle_counted, bare_counted, united_size}
 use Rattle.workers.proofs.GatherFacts.{inputs_bare, gather_pooled, gathered_moved, gathered_held}
 use Rattle.workers.proofs.OpenedFacts.{opened_workers, opened_moved, opened_size, opened_unheld, opened_free}
-use Rattle.engine.specs.declared.Answer.{Answer}
+use Rattle.model.specs.Call.{Answer}
 use Rattle.engine.specs.Runs.{answer_of, Ran}
 use Rattle.engine.proofs.PlayingFacts.{Given, graph, crew, Going, Turn, now_state, enough, even, held_inputs, held_outputs}
 use Rattle.engine.proofs.PlayingFacts.{shown_phases, some_worker, few_workers, or_else, next_run, play_on, unmet_on}
@@ -67,11 +67,12 @@ module _ {g : Given} {distances parents histogram left right values : List ℕ} 
     {pending found used effective layer : ℕ} where
   -- the schedule is spent
   pub spent_ran : Going g distances parents histogram left right values inputs outputs phases pending found used effective layer → length g.schedule ≤ used
-      → {answer : Answer} → answer ≡ answer_of unfinished used effective layer
+      → {answer : Answer} → answer ≡ answer_of unfinished (length g.schedule) effective layer
       → Ran (play (graph g) g.source g.workers g.schedule) distances parents histogram answer
   unfolding state_of labels_of
   spent_ran at over told =
-      ran_as (ap (play (graph g) g.source g.workers) (sym (take_all used g.schedule over)) ∙ at.same) told refl (sym (words_again distances))
+      let all : length g.schedule ≡ used = omega (arith, at.within) in
+      ran_as (ap (play (graph g) g.source g.workers) (sym (take_all used g.schedule over)) ∙ at.same) (told ∙ ap (λ (n : ℕ). answer_of unfinished n effective layer) all) refl (sym (words_again distances))
       (sym (words_again parents)) at.recounted
 
   module _ (turn : Turn g distances parents histogram left right values inputs outputs phases pending found used effective layer Close) where

@@ -1,5 +1,6 @@
 -- What the run of a schedule takes for granted and promises. A prime marks what stands there afterwards.
--- Only the contracts of inner steps cite these.
+-- Only the contracts of inner steps cite these, but for `number_of` and `answer_in`, what a run's ending and
+-- answer are in document 01's terms.
 use Rattle.std.specs.Prelude.{◌≡◌, cond, List, map, ℕ, ◌≤◌, length}
 use Rattle.numbers.specs.Numbers.{max_events, success, unfinished}
 use Rattle.graph.specs.Graph.{rows_of}
@@ -8,7 +9,10 @@ use Rattle.model.specs.Words.{word_of}
 use Rattle.model.specs.Histogram.{recount}
 use Rattle.model.specs.Demand.{Accepted}
 use Rattle.opening.specs.Opening.{Sized}
-use Rattle.engine.specs.declared.Answer.{Answer}
+use Rattle.model.specs.Call.{Answer}
+use Rattle.engine.specs.declared.Ending.{Ending}
+use Rattle.engine.specs.declared.Ending.TheVariants.{Finished, Spent}
+use Rattle.engine.specs.declared.Answer as code
 use Rattle.graph.specs.Steps.{GraphRows}
 
 -- what `run` takes for granted: the rows of a graph, an accepted call, "sheet 0 to 5,000,000 bytes", and lists
@@ -23,6 +27,15 @@ pub record Runnable (source P : ℕ)
 -- an answer by its four numbers
 abbrev pub answer_of : ℕ → ℕ → ℕ → ℕ → Answer
 answer_of number used effective layer = record { number = number; used = used; effective = effective; layer = layer }
+
+-- "0 is success", "21: the sheet is spent and the search isn't finished" (§10.1)
+abbrev pub number_of : Ending → ℕ
+number_of Finished = success
+number_of Spent = unfinished
+
+-- the code's answer as the model's
+abbrev pub answer_in : code.Answer → Answer
+answer_in answer = answer_of (number_of answer.ending) answer.used answer.effective answer.layer
 
 -- an answer that tells the model's run: "number, events used, effective events, d"
 pub record Told (r : Run) (answer : Answer) : Type 0 where

@@ -2,9 +2,9 @@
 ghost use Rattle.std.specs.Prelude.{◌≡◌};
 ghost use Rattle.graph.specs.Graph.{rows_of};
 ghost use Rattle.model.specs.Play.{play};
-ghost use Rattle.engine.specs.Runs.{answer_of, Runnable, Ran};
+ghost use Rattle.engine.specs.Runs.{answer_of, number_of, answer_in, Runnable, Ran};
 
-use crate::Answer;
+use crate::{Answer, Ending};
 use opening::open;
 use schedule::Event;
 use workers::{
@@ -12,14 +12,14 @@ use workers::{
 };
 
 // The run's answer.
-fn conclude(number: usize, used: usize, effective: usize, layer: u16) -> Answer
-    ensures { result ≡ answer_of number used effective layer }
+fn conclude(ending: Ending, used: usize, effective: usize, layer: u16) -> Answer
+    ensures { answer_in result ≡ answer_of (number_of ending) used effective layer }
 {
     Answer {
-        number,
+        ending,
         used,
         effective,
-        layer: layer as usize,
+        layer: usize::from(layer),
     }
 }
 
@@ -42,7 +42,7 @@ pub fn run(
     requires { Runnable source workers schedule.now offsets.now targets.now distances.old parents.old
         histogram.old left.old right.old values.old }
     ensures { Ran (play (rows_of offsets.now targets.now) source workers schedule.now)
-        distances.new parents.new histogram.new result }
+        distances.new parents.new histogram.new (answer_in result) }
 {
     let source_bag = open(
         source, workers, distances, parents, histogram, left, right, values,
@@ -52,42 +52,41 @@ pub fn run(
     let mut phases = all_free();
     let mut pending = 1;
     let mut found = 0;
-    let mut used = 0;
     let mut effective = 0;
     let mut layer: u16 = 0;
     let table = schedule::byte_table();
-    while used < schedule.len() {
-        let event = schedule::look_up(&table, schedule[used]);
-        used += 1;
+    // `used` counts the events before this one.
+    for (used, byte) in schedule.iter().enumerate() {
+        let event = schedule::look_up(&table, *byte);
         match event {
             Event::Work { worker: w } => {
                 let phase = phases[w];
-                if let Phase::Free = phase {
-                    let input = inputs[w];
-                    if bag::is_empty(input) {
-                        continue;
+                match phase {
+                    Phase::Free => {
+                        let input = inputs[w];
+                        if bag::is_empty(input) {
+                            continue;
+                        }
+                        let begun = begin(input, offsets, left, right, values);
+                        inputs[w] = begun.input;
+                        phases[w] = begun.phase;
                     }
-                    let begun = begin(input, offsets, left, right, values);
-                    let rest = begun.input;
-                    let next = begun.phase;
-                    inputs[w] = rest;
-                    phases[w] = next;
-                } else if let Phase::Named {
-                    vertex,
-                    edge,
-                    end,
-                    target,
-                } = phase
-                {
-                    let stowed = stow(outputs[w], vertex, edge, end, target, left, right, values);
-                    let more = stowed.output;
-                    let next = stowed.phase;
-                    outputs[w] = more;
-                    phases[w] = next;
-                    found += 1;
-                } else {
-                    let next = advance(phase, layer, targets, distances, parents, histogram);
-                    phases[w] = next;
+                    Phase::Named {
+                        vertex,
+                        edge,
+                        end,
+                        target,
+                    } => {
+                        let stowed = stow(
+                            outputs[w], vertex, edge, end, target, left, right, values,
+                        );
+                        outputs[w] = stowed.output;
+                        phases[w] = stowed.phase;
+                        found += 1;
+                    }
+                    _ => {
+                        phases[w] = advance(phase, layer, targets, distances, parents, histogram);
+                    }
                 }
                 pending -= used_up(phases[w]);
                 effective += 1;
@@ -95,17 +94,14 @@ pub fn run(
             Event::Split { taker: w, giver: v } => {
                 if can_split(inputs[w], inputs[v]) {
                     let halves = bag::split(inputs[v], left, right);
-                    let kept = halves.first;
-                    let given = halves.second;
-                    inputs[v] = kept;
-                    inputs[w] = given;
+                    inputs[v] = halves.first;
+                    inputs[w] = halves.second;
                     effective += 1;
                 }
             }
             Event::Unite { giver: w, taker: v } => {
                 if can_unite(outputs[w], outputs[v]) {
-                    let united = bag::union(outputs[v], outputs[w], left, right);
-                    outputs[v] = united;
+                    outputs[v] = bag::union(outputs[v], outputs[w], left, right);
                     outputs[w] = bag::empty();
                     effective += 1;
                 }
@@ -116,7 +112,7 @@ pub fn run(
                     let next = layer + 1;
                     let counted = effective + 1;
                     if found == 0 {
-                        return conclude(numbers::SUCCESS, used, counted, layer);
+                        return conclude(Ending::Finished, used + 1, counted, layer);
                     }
                     let united = gather(inputs[0], outputs, workers, left, right);
                     layer = next;
@@ -131,5 +127,5 @@ pub fn run(
             Event::Malformed => {}
         }
     }
-    conclude(numbers::UNFINISHED, used, effective, layer)
+    conclude(Ending::Spent, schedule.len(), effective, layer)
 }

@@ -2,7 +2,7 @@
 -- the first bytes of more.
 use mathlib.Core.Path.{◌≡◌, sym, ap, ◌∙◌}
 use mathlib.Core.List.{List}
-use Prim.Native.Nat.{ℕ, ◌+◌, ◌≤◌, ◌<◌}
+use Prim.Native.Nat.{ℕ, ◌+◌, ◌≤◌, min}
 use native.Mathlib.Decide.{dec_le}
 use native.Mathlib.Omega.{arith}
 use lib.ListN.{length, take, drop, length-take, length-drop, drop_of_length-le}
@@ -13,15 +13,10 @@ use Rattle.graph.proofs.WordRuns.{part_word}
 use Rattle.forwarding.specs.Behind.{length_in, file_at, sleepers_behind}
 
 module _ (bytes : List ℕ) where
-  -- the bytes end within the file
-  pub size_cut : {size : ℕ} → size ≡ length_in bytes → length bytes < size → length bytes ≡ length (file_at bytes)
+  -- the file's length by its n and m, or all bytes where there are fewer
+  pub file_least : length (file_at bytes) ≡ min (length_in bytes) (length bytes)
   unfolding file_at
-  size_cut e h = ap length (sym (take_all (length_in bytes) bytes (omega (arith, e))))
-
-  -- or they have all of it
-  pub size_whole : {size : ℕ} → size ≡ length_in bytes → size ≤ length bytes → size ≡ length (file_at bytes)
-  unfolding file_at
-  size_whole e h = e ∙ sym (length-take-le (length_in bytes) bytes (omega (arith, e)))
+  file_least = length-take (length_in bytes) bytes
 
   module _ {size : ℕ} (told : size ≡ length (file_at bytes)) where
     -- so many bytes are the file

@@ -2,13 +2,12 @@
 use mathlib.Core.Path.{◌≡◌, refl, sym, ap, ◌∙◌}
 use mathlib.Core.Bool.{Bool, true, false, cond, not, ◌||◌}
 use mathlib.Core.List.{List, [], ◌∷◌, ◌++◌}
-use Prim.Native.Nat.{ℕ, zero, suc, ◌+◌, ◌≤◌, ◌<◌, max}
-use native.Mathlib.Numerals.{add-one}
+use Prim.Native.Nat.{ℕ, zero, suc, ◌≤◌, ◌<◌, max}
 use native.Mathlib.Omega.{arith}
 use lib.Dec.{leb, ltb, eqb}
-use lib.ListN.{length, get_or, drop, replicate, drop_of_length-le, length-replicate}
-use lib.Seq.{drop-cons}
+use lib.ListN.{length, replicate, length-replicate}
 use borrow.Author.Tests.{leb-false, eqb-true, not-false, le-leb, lt-leb, eq-eqb, ne_eqb}
+use Rattle.std.specs.List.{fold}
 use Rattle.numbers.specs.Numbers.{success, bad_source, bad_sleepers}
 use Rattle.numbers.specs.Refusals.{Refusal, ◌gives◌, first}
 use Rattle.numbers.proofs.First.{Positive, first_stop, first_skip, first_passed, first_split}
@@ -19,17 +18,14 @@ use Rattle.graph.specs.File.{vertex_count}
 use Rattle.graph.specs.Read.{header_refusals, scan_refusals}
 use Rattle.forwarding.specs.Sleepers.{sleepers_wrong, source_refusals, source_number}
 
--- The largest byte, one after another.
-module _ (bytes : List ℕ) (i found : ℕ) (inv : largest bytes ≡ max found (largest (drop i bytes))) where
-  -- one byte more
-  pub largest_more : i < length bytes → {more : ℕ} → more ≡ max found (get_or bytes i 0) → largest bytes ≡ max more (largest (drop (i + 1) bytes))
-  unfolding largest
-  largest_more h e = rw (add-one i) (omega (arith, rw (drop-cons bytes i 0 h) at inv))
+-- the larger of two, one byte after another, is the largest
+largest_from : (found : ℕ) (bytes : List ℕ) → fold max found bytes ≡ max found (largest bytes)
+unfolding largest
+largest_from found [] = omega arith
+largest_from found (byte ∷ bytes) = largest_from (max found byte) bytes ∙ omega arith
 
-  -- none is left
-  pub largest_end : length bytes ≤ i → found ≡ largest bytes
-  unfolding largest
-  largest_end h = omega (arith, rw (drop_of_length-le bytes h) at inv)
+pub largest_fold : (bytes : List ℕ) → fold max 0 bytes ≡ largest bytes
+largest_fold bytes = largest_from 0 bytes ∙ omega arith
 
 -- The list.
 module _ (n : ℕ) (sleepers : List ℕ) where

@@ -3,35 +3,21 @@
 // uses these steps yet.
 #![tactic(auto)]
 
-ghost use Rattle.std.specs.Prelude.{◌≡◌, ◌<◌, ◌≤◌, max, length};
+ghost use Rattle.std.specs.Prelude.{◌≡◌, ◌<◌, ◌≤◌, length};
+ghost use Rattle.numbers.specs.Told.{told};
 ghost use Rattle.lists.specs.Lists.{largest};
 ghost use Rattle.forwarding.specs.Sleepers.{may_forward, sleepers_wrong, source_number};
 ghost use Rattle.forwarding.specs.Behind.{file_at};
 
 use graph::words::word;
+use numbers::Refused;
 
-// The larger of two.
-fn larger(x: u8, y: u8) -> u8
-    ensures { result ≡ max x y }
-{
-    if x < y {
-        return y;
-    }
-    x
-}
-
-// The largest byte; 0 where there are none. The loop has no exit on the way, so it is compiled to
+// The largest byte; 0 where there are none. The fold has no exit on the way, so it is compiled to
 // steps over many bytes at a time.
 fn largest_byte(bytes: &[u8]) -> u8
     ensures { result ≡ largest bytes.now }
 {
-    let mut found = 0;
-    let mut i = 0;
-    while i < bytes.len() {
-        found = larger(found, bytes[i]);
-        i += 1;
-    }
-    found
+    bytes.iter().fold(0, |found, byte| found.max(*byte))
 }
 
 // 12: "a sleeper byte above 1 or a list not of n bytes".
@@ -45,16 +31,16 @@ fn sleepers_wrong(n: usize, sleepers: &[u8]) -> bool
 }
 
 // 7, then 12, of a call for n vertices.
-pub fn source_number(n: usize, source: usize, sleepers: &[u8]) -> usize
-    ensures { result ≡ source_number n source sleepers.now }
+pub fn check_source(n: usize, source: usize, sleepers: &[u8]) -> Result<(), Refused>
+    ensures { told result ≡ source_number n source sleepers.now }
 {
     if n <= source {
-        return numbers::BAD_SOURCE;
+        return Err(Refused::BadSource);
     }
     if sleepers_wrong(n, sleepers) {
-        return numbers::BAD_SLEEPERS;
+        return Err(Refused::BadSleepers);
     }
-    numbers::SUCCESS
+    Ok(())
 }
 
 // "the source or a device that is awake": whether the vertex may pass messages on. One look at one
@@ -77,8 +63,5 @@ pub fn file_size(bytes: &[u8]) -> usize
     ensures upper_bound { result ≤ length bytes.now }
 {
     let size = 2 * (2 + word(bytes, 0) + 2 * word(bytes, 1));
-    if bytes.len() < size {
-        return bytes.len();
-    }
-    size
+    size.min(bytes.len())
 }

@@ -9,7 +9,7 @@ use Rattle.numbers.proofs.First.{first_append, first_append_stop, first_split}
 use Rattle.graph.specs.File.{vertex_count, edge_count}
 use Rattle.graph.specs.Read.{refusal_answer, answer_with}
 use Rattle.graph.specs.Steps.{file_refusals, file_answer, Scanned}
-use Rattle.graph.specs.declared.ReadAnswer.{ReadAnswer}
+use Rattle.graph.specs.Read.{ReadAnswer}
 use Rattle.graph.proofs.ReadFacts.{answer_number, answer_whole, answer-by, positive_file, passed_scanned, file_number, file_whole}
 
 module _ (file : List ℕ) (others : List Refusal) where
@@ -56,8 +56,8 @@ module _ (file : List ℕ) (others : List Refusal) where
       number_others = first_append (file_refusals file) others (positive_file file) (sym (file_number file answered) ∙ whole)
 
       -- refused by the others
-      pub by_others : {k : ℕ} {r : ReadAnswer} → first others ≡ k → (k ≡ 0 → ⊥) → r ≡ refusal_answer k → r ≡ answer
-      by_others f h e = answer-by refusals (vertex_count file) (edge_count file) (number_others ∙ f) h e
+      pub by_others : {k : ℕ} → first others ≡ k → (k ≡ 0 → ⊥) → refusal_answer k ≡ answer
+      by_others f h = answer-by refusals (vertex_count file) (edge_count file) (number_others ∙ f) h
 
       -- or by nothing: n and m are the file's
       pub by_none : first others ≡ 0 → head ≡ answer

@@ -15,7 +15,7 @@ use Rattle.lists.proofs.Or.{or_none}
 use Rattle.graph.specs.File.{vertex_count, edge_count}
 use Rattle.graph.specs.Read.{header_refusals, scan_refusals, chain_refusals, rows_short, read_refusals, read_number, refusal_answer, answer_with, writes_rows, clears_marks, read_exit, read_outcome_by, outcome_of_read}
 use Rattle.graph.specs.Steps.{file_refusals, file_answer, Sized, Scanned, Unchained}
-use Rattle.graph.specs.declared.ReadAnswer.{ReadAnswer}
+use Rattle.graph.specs.Read.{ReadAnswer}
 use Rattle.graph.proofs.WellFormed.{header_sized, positive_header}
 
 -- a number that is not 0 is positive
@@ -60,8 +60,8 @@ unfolding answer_with
 answer_whole k n m h = rw h
 
 -- the answer of a list of refusals, where this is its number
-pub answer-by : (l : List Refusal) (n m : ℕ) {k : ℕ} {a : ReadAnswer} → first l ≡ k → (k ≡ 0 → ⊥) → a ≡ refusal_answer k → a ≡ answer_with (first l) n m
-answer-by l n m {k} e h r = r ∙ sym (answer_refused k n m h) ∙ ap (λ (x : ℕ). answer_with x n m) (sym e)
+pub answer-by : (l : List Refusal) (n m : ℕ) {k : ℕ} → first l ≡ k → (k ≡ 0 → ⊥) → refusal_answer k ≡ answer_with (first l) n m
+answer-by l n m {k} e h = sym (answer_refused k n m h) ∙ ap (λ (x : ℕ). answer_with x n m) (sym e)
 
 -- the file's tests have numbers above 0
 pub positive_file : (file : List ℕ) → Positive (file_refusals file)
@@ -78,11 +78,11 @@ passed_scanned file e =
 -- What `examine` answers, one fact for each way through its tests.
 module _ (file : List ℕ) {k : ℕ} where
   -- refused by the header
-  pub by_header : {a : ReadAnswer} → first (header_refusals file) ≡ k → (k ≡ 0 → ⊥) → a ≡ refusal_answer k → a ≡ file_answer file
+  pub by_header : first (header_refusals file) ≡ k → (k ≡ 0 → ⊥) → refusal_answer k ≡ file_answer file
   unfolding file_answer file_refusals
-  by_header e h r =
+  by_header e h =
       let stopped = first_append_stop (header_refusals file) (scan_refusals file) (omega arith) in
-      answer-by (file_refusals file) (vertex_count file) (edge_count file) (stopped ∙ e) h r
+      answer-by (file_refusals file) (vertex_count file) (edge_count file) (stopped ∙ e) h
 
   module _ (passed : first (header_refusals file) ≡ 0) (looked : k ≡ first (scan_refusals file)) where
     -- past the header
@@ -91,9 +91,9 @@ module _ (file : List ℕ) {k : ℕ} where
     file_scan = first_append (header_refusals file) (scan_refusals file) (positive_header file) passed ∙ sym looked
 
     -- by the scan
-    pub by_scan : {a : ReadAnswer} → (k ≡ 0 → ⊥) → a ≡ refusal_answer k → a ≡ file_answer file
+    pub by_scan : (k ≡ 0 → ⊥) → refusal_answer k ≡ file_answer file
     unfolding file_answer
-    by_scan h r = answer-by (file_refusals file) (vertex_count file) (edge_count file) file_scan h r
+    by_scan h = answer-by (file_refusals file) (vertex_count file) (edge_count file) file_scan h
 
     -- or by nothing
     pub by_none : {n m : ℕ} → k ≡ 0 → n ≡ vertex_count file → m ≡ edge_count file → record { number = 0; vertices = n; edges = m } ≡ file_answer file
@@ -172,10 +172,10 @@ module _ (file offsets targets marks : List ℕ) where
       (e ∙ answer_refused (first (file_refusals file)) (vertex_count file) (edge_count file) refused)
 
   -- of a list
-  pub read_short : {a : ReadAnswer} → first (file_refusals file) ≡ 0 → short ≡ true → a ≡ refusal_answer short_list
-      → read_exit a offsets targets marks ≡ outcome_of_read file offsets targets marks
+  pub read_short : first (file_refusals file) ≡ 0 → short ≡ true
+      → read_exit (refusal_answer short_list) offsets targets marks ≡ outcome_of_read file offsets targets marks
   unfolding clears_marks elem
-  read_short p h e = refuses (number_short p h) (λ z. absurd (omega arith)) refl e
+  read_short p h = refuses (number_short p h) (λ z. absurd (omega arith)) refl refl
 
   module _ {number : ℕ} {offsets' targets' marks' : List ℕ} (p : first (file_refusals file) ≡ 0) (h : short ≡ false)
       (u : Unchained file (edge_count file) number offsets targets marks offsets' targets' marks') where
@@ -190,9 +190,9 @@ module _ (file offsets targets marks : List ℕ) where
         ∙ ap (λ (x : ℕ). read_outcome_by x file offsets targets marks) (u.judged ∙ sym (number_chains p h))
 
     -- of the chains
-    pub read_chains : {a : ReadAnswer} → (number ≡ 0 → ⊥) → a ≡ refusal_answer number → read_exit a offsets' targets' marks' ≡ outcome_of_read file offsets targets marks
-    read_chains k e =
-        ap (λ (x : ReadAnswer). read_exit x offsets' targets' marks') (e ∙ sym (answer_refused number (vertex_count file) (edge_count file) k)) ∙ unchains
+    pub read_chains : (number ≡ 0 → ⊥) → read_exit (refusal_answer number) offsets' targets' marks' ≡ outcome_of_read file offsets targets marks
+    read_chains k =
+        ap (λ (x : ReadAnswer). read_exit x offsets' targets' marks') (sym (answer_refused number (vertex_count file) (edge_count file) k)) ∙ unchains
 
     -- or no refusal
     pub read_whole : {a : ReadAnswer} → number ≡ 0 → a ≡ record { number = 0; vertices = vertex_count file; edges = edge_count file }

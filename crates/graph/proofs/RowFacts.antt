@@ -34,9 +34,9 @@ offsets_chains file = ap (sums_from 0) (row_lengths file (chains file))
 abbrev pub Targets : List ℕ → List ℕ → List ℕ → ℕ → Type 0
 Targets file old list i = Laid (targets_of (graph_of file)) old list (λ j. get_or (reached file) j 0 ≤ i)
 
--- before a vertex: the offsets behind it are written
+-- at a vertex: its offset and those behind it are written
 abbrev pub Offsets : List ℕ → List ℕ → List ℕ → ℕ → Type 0
-Offsets file old list vertex = Laid (offsets_of (graph_of file)) old list (λ j. vertex < j)
+Offsets file old list vertex = Laid (offsets_of (graph_of file)) old list (λ j. vertex ≤ j)
 
 module _ {file : List ℕ} {n m : ℕ} {marks : List ℕ} (s : Chained file n m) (r : Ranked file marks) where
   -- all records are reached
@@ -134,26 +134,21 @@ module _ {file : List ℕ} {n m : ℕ} {marks : List ℕ} (s : Chained file n m)
       let row = chain_at file u b ∙ ap (chain file (suc (edge_count file))) none ∙ chain_end file (suc (edge_count file)) in
       rw (offsets_chains file) (row_none (chains file) 0 u (rw (length_chains file) b) row)
 
-  -- none is written yet
-  pub offsets_start : (old : List ℕ) → Offsets file old old n
-  offsets_start old = laid_none (offsets_of (graph_of file)) old (λ j. n < j) (λ j h d. omega (arith, offsets_long))
+  -- the last one is written first
+  pub offsets_start : {x : ℕ} (old : List ℕ) → n + 1 ≤ length old → x ≡ m → Offsets file old (set old n x) n
+  offsets_start old room e =
+      laid_more (offsets_of (graph_of file)) old old (λ j. n < j) (λ j. n ≤ j)
+      (laid_none (offsets_of (graph_of file)) old (λ j. n < j) (λ j h d. omega (arith, offsets_long))) (omega (arith, offsets_long)) (omega (arith, offsets_long))
+      (e ∙ offset_last) (λ j b d other. omega arith)
 
-  -- with the vertex's own
-  stored : {old list : List ℕ} {vertex x : ℕ} → Offsets file old list vertex → n + 1 ≤ length old → vertex ≤ n → x ≡ get_or (offsets_of (graph_of file)) vertex 0
-      → Laid (offsets_of (graph_of file)) old (set list vertex x) (λ j. vertex ≤ j)
-  stored {old} {list} {vertex} w room h e =
-      laid_more (offsets_of (graph_of file)) old list (λ j. vertex < j) (λ j. vertex ≤ j) w (omega (arith, offsets_long)) (omega (arith, offsets_long)) e
+  -- then the one before
+  pub offsets_next : {old list : List ℕ} {vertex u x : ℕ} → Offsets file old list vertex → n + 1 ≤ length old → vertex ≡ suc u → u < n
+      → x ≡ get_or (offsets_of (graph_of file)) u 0 → Offsets file old (set list u x) u
+  offsets_next {old} {list} {vertex} {u} {x} w room behind h e =
+      laid_more (offsets_of (graph_of file)) old list (λ j. vertex ≤ j) (λ j. u ≤ j) w (omega (arith, offsets_long)) (omega (arith, offsets_long)) e
       (λ j b d other. omega arith)
 
-  -- the one before it is next
-  pub offsets_next : {old list : List ℕ} {vertex x : ℕ} → Offsets file old list vertex → n + 1 ≤ length old → vertex ≤ n
-      → x ≡ get_or (offsets_of (graph_of file)) vertex 0 → (vertex ≡ 0 → ⊥) → Offsets file old (set list vertex x) (vertex - 1)
-  offsets_next {old} {list} {vertex} {x} w room h e some =
-      let l = stored w room h e in
-      record { long = l.long; rest = l.rest; there = λ j b d. l.there j b (omega arith) }
-
-  -- all are written
-  pub offsets_done : {old list : List ℕ} {vertex x : ℕ} → Offsets file old list vertex → n + 1 ≤ length old → vertex ≤ n
-      → x ≡ get_or (offsets_of (graph_of file)) vertex 0 → vertex ≡ 0 → set list vertex x ≡ overlay (offsets_of (graph_of file)) old
-  offsets_done {old} {list} {vertex} {x} w room h e first =
-      laid_all (offsets_of (graph_of file)) old (set list vertex x) (λ j. vertex ≤ j) (stored w room h e) (omega (arith, offsets_long)) (λ j b. omega arith)
+  -- at vertex 0 all are written
+  pub offsets_done : {old list : List ℕ} {vertex : ℕ} → Offsets file old list vertex → n + 1 ≤ length old → vertex ≡ 0 → list ≡ overlay (offsets_of (graph_of file)) old
+  offsets_done {old} {list} {vertex} w room first =
+      laid_all (offsets_of (graph_of file)) old list (λ j. vertex ≤ j) w (omega (arith, offsets_long)) (λ j b. omega arith)

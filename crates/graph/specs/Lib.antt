@@ -3,6 +3,7 @@
 pub mod Graph
 pub mod File
 pub mod Read
+pub mod Answers
 pub mod Encode
 pub mod Write
 pub mod Links

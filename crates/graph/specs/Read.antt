@@ -7,7 +7,6 @@ use Rattle.lists.specs.Lists.{overlay, numbers_from, elem, repeats, lacks, reach
 use Rattle.graph.specs.Graph.{offsets_of, targets_of}
 use Rattle.graph.specs.File.{vertex_count, edge_count, file_length, graph_of}
 use Rattle.graph.specs.File.{heads, record_targets, record_nexts, reached}
-use Rattle.graph.specs.declared.ReadAnswer.{ReadAnswer}
 
 -- "devices n 1 to 4,096", "links m 0 to 32,768" (§1.3)
 unfoldable pub outside_sizes : ℕ → ℕ → Bool
@@ -51,6 +50,12 @@ read_refusals file offsets targets marks =
 -- the reader's number
 unfoldable pub read_number : List ℕ → List ℕ → List ℕ → List ℕ → ℕ
 read_number file offsets targets marks = first (read_refusals file offsets targets marks)
+
+-- the reader's answer: its number and, with 0, how many vertices and edges there are (§2.7)
+pub record ReadAnswer : Type 0 where
+  pub number : ℕ
+  pub vertices : ℕ
+  pub edges : ℕ
 
 -- "A refusal other than 21 gives zeros beside its number." (§10.5)
 abbrev pub refusal_answer : ℕ → ReadAnswer

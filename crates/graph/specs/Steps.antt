@@ -7,7 +7,7 @@ use Rattle.lists.specs.Lists.{overlay, reaches}
 use Rattle.graph.specs.Graph.{offsets_of, targets_of, rows_of}
 use Rattle.graph.specs.File.{vertex_count, edge_count, file_length, reached, graph_of}
 use Rattle.graph.specs.Read.{header_refusals, scan_refusals, chain_refusals, answer_with, writes_rows}
-use Rattle.graph.specs.declared.ReadAnswer.{ReadAnswer}
+use Rattle.graph.specs.Read.{ReadAnswer}
 
 -- the tests that reader, search and checker begin with: 1 (under 4), 2, 1 (length), 4, 3
 unfoldable pub file_refusals : List ℕ → List Refusal

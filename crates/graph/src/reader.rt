@@ -1,27 +1,28 @@
 // The reader: from the bytes of a file to its rows.
 ghost use Rattle.std.specs.Prelude.{◌≡◌};
+ghost use Rattle.graph.specs.Answers.{answer_of};
 ghost use Rattle.graph.specs.Read.{outcome_of_read, read_exit};
 
-use crate::ReadAnswer;
-use crate::steps::{examine, refused, rows_short, unchain};
+use crate::Survey;
+use crate::steps::{examine, rows_short};
+use numbers::Refused;
 
 // Reads the file into rows: offsets and targets. Marks is working room.
-pub fn read(file: &[u8], offsets: &mut [u16], targets: &mut [u16], marks: &mut [u16]) -> ReadAnswer
-    ensures { read_exit result offsets.new targets.new marks.new
+pub fn read<'a>(
+    file: &'a [u8],
+    offsets: &mut [u16],
+    targets: &mut [u16],
+    marks: &mut [u16],
+) -> Result<Survey<'a>, Refused>
+    ensures { read_exit (answer_of result) offsets.new targets.new marks.new
         ≡ outcome_of_read file.now offsets.old targets.old marks.old }
 {
-    let answer = examine(file);
-    let n = answer.vertices;
-    let m = answer.edges;
-    if answer.number != numbers::SUCCESS {
-        return answer;
-    }
+    let survey = examine(file)?;
+    let n = survey.vertices;
+    let m = survey.edges;
     if rows_short(n, m, offsets.len(), targets.len(), marks.len()) {
-        return refused(numbers::SHORT_LIST);
+        return Err(Refused::ShortList);
     }
-    let kept = unchain(file, n, m, offsets, targets, marks);
-    if kept != numbers::SUCCESS {
-        return refused(kept);
-    }
-    answer
+    survey.unchain(offsets, targets, marks)?;
+    Ok(survey)
 }

@@ -1,33 +1,16 @@
 // 16-bit words in a list of bytes, low byte first, and the elements of a list of 16-bit numbers.
-ghost use Rattle.std.specs.Prelude.{◌≡◌, ◌+◌, ◌*◌, ◌/◌, ◌%◌, ◌<◌, ◌≤◌, max, length, get_or, set};
+ghost use Rattle.std.specs.Prelude.{◌≡◌, ◌+◌, ◌*◌, ◌/◌, ◌%◌, ◌<◌, ◌≤◌, length, get_or, set};
 ghost use Rattle.lists.specs.Lists.{largest};
 ghost use Rattle.graph.specs.File.{words_at};
 ghost use Rattle.graph.specs.File.{word as File·word};
 
-// A byte, as wide as a word.
-fn wide(byte: u8) -> u16
-    ensures value { result ≡ byte }
-    ensures upper_bound { result < 256 }
-{
-    byte as u16
-}
-
 // The word at place i, 16 bits wide as it is stored.
+#[tactic(auto, unfolding(crate::specs::File::word))]
 pub fn word16(file: &[u8], i: usize) -> u16
     requires { 2 * i + 1 < length file.now }
     ensures { result ≡ File·word file.now i }
 {
-    let low = wide(file[2 * i]);
-    let high = wide(file[2 * i + 1]);
-    low + 256 * high
-}
-
-// The number, as wide as a count.
-pub fn wide16(x: u16) -> usize
-    ensures value { result ≡ x }
-    ensures upper_bound { result < 65536 }
-{
-    x as usize
+    u16::from_le_bytes([file[2 * i], file[2 * i + 1]])
 }
 
 // The word at place i.
@@ -36,17 +19,7 @@ pub fn word(file: &[u8], i: usize) -> usize
     ensures value { result ≡ File·word file.now i }
     ensures upper_bound { result < 65536 }
 {
-    wide16(word16(file, i))
-}
-
-// The larger of two.
-pub fn larger(x: u16, y: u16) -> u16
-    ensures { result ≡ max x y }
-{
-    if x < y {
-        return y;
-    }
-    x
+    usize::from(word16(file, i))
 }
 
 // The largest of the `count` words from `place` on; 0 where there are none. The loop has no exit on
@@ -56,10 +29,8 @@ pub fn largest_word(file: &[u8], place: usize, count: usize) -> u16
     ensures { result ≡ largest (words_at file.now place 1 count) }
 {
     let mut found = 0;
-    let mut i = 0;
-    while i < count {
-        found = larger(found, word16(file, place + i));
-        i += 1;
+    for i in 0..count {
+        found = found.max(word16(file, place + i));
     }
     found
 }
@@ -70,15 +41,17 @@ pub fn element(list: &[u16], i: usize) -> usize
     ensures value { result ≡ get_or list.now i 0 }
     ensures upper_bound { result < 65536 }
 {
-    wide16(list[i])
+    usize::from(list[i])
 }
 
-// Stores the word w at place i.
+// Stores the word w at place i. The cast is of a number whose bound is required: `try_from` and
+// `unwrap` ask for the same.
 pub fn put(file: &mut [u8], i: usize, w: usize)
     requires i_in_bounds { 2 * i + 1 < length file.old }
     requires w_bound { w < 65536 }
     ensures { file.new ≡ set (set file.old (2 * i) (w % 256)) (2 * i + 1) (w / 256) }
 {
-    file[2 * i] = (w % 256) as u8;
-    file[2 * i + 1] = (w / 256) as u8;
+    let [low, high] = (w as u16).to_le_bytes();
+    file[2 * i] = low;
+    file[2 * i + 1] = high;
 }

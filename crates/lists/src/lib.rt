@@ -10,7 +10,7 @@ pub fn at(list: &[u16], x: u16) -> u16
     requires { x < length list.now }
     ensures { result ≡ get_or list.now x 0 }
 {
-    list[x as usize]
+    list[usize::from(x)]
 }
 
 // Stores y at place x.
@@ -18,7 +18,7 @@ pub fn put(list: &mut [u16], x: u16, y: u16)
     requires { x < length list.old }
     ensures { list.new ≡ set list.old x y }
 {
-    list[x as usize] = y;
+    list[usize::from(x)] = y;
 }
 
 // Sets the first `count` places to y.
@@ -26,11 +26,7 @@ pub fn fill(list: &mut [u16], count: usize, y: u16)
     requires { count ≤ length list.old }
     ensures { list.new ≡ overlay (replicate count y) list.old }
 {
-    let mut i = 0;
-    while i < count {
-        list[i] = y;
-        i += 1;
-    }
+    list[..count].fill(y);
 }
 
 // Sets the first `count` places to 0.

@@ -1,6 +1,10 @@
-// Document 01's numbers and sizes, as the code names them. specs/Numbers.antt has the same for the
-// contracts. No functions.
+// Document 01's sizes, and why a call turns its input down, as the code names them. specs/Numbers.antt
+// has the same for the contracts, with document 01's number for each.
 #![tactic(auto)]
+
+mod refused;
+
+pub use refused::{Refused, told};
 
 // Sizes.
 pub const MAX_VERTICES: usize = 4096;
@@ -17,34 +21,9 @@ pub const UNSET: u16 = 65535;
 // The same as a `usize`, for words that were made wide.
 pub const WIDE_UNSET: usize = UNSET as usize;
 
-// "Turned down by the input"; 0 is success.
+// The answer's number where a call turns nothing down.
 pub const SUCCESS: usize = 0;
 
-pub const BAD_LENGTH: usize = 1;
-
-pub const BAD_SIZE: usize = 2;
-
-pub const BAD_TARGET: usize = 3;
-
-pub const BAD_INDEX: usize = 4;
-
-pub const REPEATED: usize = 5;
-
-pub const UNREACHED: usize = 6;
-
-pub const BAD_SOURCE: usize = 7;
-
-pub const BAD_WORKERS: usize = 8;
-
-pub const BAD_SCHEDULE: usize = 9;
-
-pub const BAD_RESULT: usize = 10;
-
-pub const BAD_ROWS: usize = 11;
-
-pub const BAD_SLEEPERS: usize = 12;
-
-// "Turned down by the state".
-pub const SHORT_LIST: usize = 20;
-
+// "21: the sheet is spent and the search isn't finished": lists are written all the same, so it is no
+// refusal.
 pub const UNFINISHED: usize = 21;

@@ -39,8 +39,8 @@ fn label(source: u16, distances: &mut [u16], parents: &mut [u16])
     ensures distances_after { distances.new ≡ set (replicate (length distances.old) unset) source 0 }
     ensures parents_after { parents.new ≡ set (replicate (length distances.old) unset) source source }
 {
-    lists::fill(distances, distances.len(), numbers::UNSET);
-    lists::fill(parents, parents.len(), numbers::UNSET);
+    distances.fill(numbers::UNSET);
+    parents.fill(numbers::UNSET);
     put(distances, source, 0);
     put(parents, source, source);
 }
@@ -50,6 +50,6 @@ fn count(histogram: &mut [u16])
     requires { 0 < length histogram.old }
     ensures { histogram.new ≡ set (replicate (length histogram.old) 0) 0 1 }
 {
-    lists::clear(histogram, histogram.len());
-    put(histogram, 0, 1);
+    histogram.fill(0);
+    histogram[0] = 1;
 }

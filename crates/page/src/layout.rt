@@ -6,7 +6,6 @@ ghost use Rattle.page.specs.Layout.{line_bytes, head_line, vertex_line, page_tex
 ghost use Rattle.page.specs.Steps.{entry_text};
 
 use crate::{LINE_BYTES, PAGE_VERTICES};
-use graph::words::element;
 use text::{LINE_FEED, SPACE, put_field, put_label, put_text};
 
 // How many bytes the pages of n vertices have.
@@ -14,11 +13,12 @@ pub fn page_need(n: usize) -> usize
     requires { n ≤ max_vertices }
     ensures { result ≡ page_need n }
 {
-    let pages = (n + (PAGE_VERTICES - 1)) / PAGE_VERTICES;
+    let pages = n.div_ceil(PAGE_VERTICES);
     LINE_BYTES * (n + pages)
 }
 
 // A page's line one: its words in columns 1 to 10, its number in columns 11 to 20.
+#[tactic(auto, using(crate::proofs::LineFacts::few_digits))]
 fn put_head_line(output: &mut [u8], at: usize, number: usize) -> usize
     requires number_le_max_vertices { number ≤ max_vertices }
     requires line_bytes_in_bounds { at + line_bytes ≤ length output.old }
@@ -30,30 +30,22 @@ fn put_head_line(output: &mut [u8], at: usize, number: usize) -> usize
 }
 
 // A vertex's line: the vertex in columns 1 to 5, its distance in 7 to 13, its parent in 15 to 20.
-fn put_vertex_line(
-    output: &mut [u8],
-    at: usize,
-    vertex: usize,
-    distance: usize,
-    parent: usize,
-) -> usize
+#[tactic(auto, using(crate::proofs::LineFacts::few_digits, text::proofs::TextFacts::label_short))]
+fn put_vertex_line(output: &mut [u8], at: usize, vertex: usize, distance: u16, parent: u16) -> usize
     requires vertex_lt_max_vertices { vertex < max_vertices }
-    requires distance_bound { distance < 65536 }
-    requires parent_bound { parent < 65536 }
     requires line_bytes_in_bounds { at + line_bytes ≤ length output.old }
     ensures value { result ≡ at + line_bytes }
     ensures prints { Prints (vertex_line vertex distance parent) output.old at output.new result }
 {
     let first = put_field(output, at, vertex, 5, SPACE);
-    let second = put_label(output, first, distance, 7, SPACE);
-    put_label(output, second, parent, 6, LINE_FEED)
+    let second = put_label(output, first, usize::from(distance), 7, SPACE);
+    put_label(output, second, usize::from(parent), 6, LINE_FEED)
 }
 
 // A vertex's line, with the page's line one before it where the vertex is the first of a page.
-fn put_entry(output: &mut [u8], at: usize, vertex: usize, distance: usize, parent: usize) -> usize
+#[tactic(auto, using(crate::proofs::PageFacts::entry_first, crate::proofs::PageFacts::entry_other))]
+fn put_entry(output: &mut [u8], at: usize, vertex: usize, distance: u16, parent: u16) -> usize
     requires vertex_lt_max_vertices { vertex < max_vertices }
-    requires distance_bound { distance < 65536 }
-    requires parent_bound { parent < 65536 }
     requires at_value { (at ≡ page_need vertex) × (page_need (vertex + 1) ≤ length output.old) }
     ensures value { result ≡ page_need (vertex + 1) }
     ensures prints { Prints (entry_text vertex distance parent) output.old at output.new result }
@@ -76,16 +68,8 @@ pub fn put_pages(output: &mut [u8], n: usize, distances: &[u16], parents: &[u16]
         output.old 0 output.new result }
 {
     let mut next = 0;
-    let mut vertex = 0;
-    while vertex < n {
-        next = put_entry(
-            output,
-            next,
-            vertex,
-            element(distances, vertex),
-            element(parents, vertex),
-        );
-        vertex += 1;
+    for vertex in 0..n {
+        next = put_entry(output, next, vertex, distances[vertex], parents[vertex]);
     }
     next
 }

@@ -65,6 +65,9 @@ module _ (input : List ℕ) where
         four = long;
       }
 
+-- each way through the order
+pub ruleset own_order = (own_words, own_count, own_file, own_fit)
+
 -- words laid over the front of a list are its first places
 pub words_front : (input : List ℕ) (place count : ℕ) (old : List ℕ) {list : List ℕ} → list ≡ overlay (words_at input place 1 count) old
     → take count list ≡ words_at input place 1 count

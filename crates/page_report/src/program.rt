@@ -7,13 +7,14 @@ ghost use Rattle.text.specs.Printed.{Printed, Prints};
 ghost use Rattle.page_report.specs.Input.{own_refusals, longest_input};
 ghost use Rattle.page_report.specs.Respond.{number_line, response, output_places, outcome_of_respond};
 
-use crate::input::{copy_words, own_number};
+use crate::input::{check_input, copy_words};
 use crate::{INPUT_PLACES, OUTPUT_PLACES};
 use graph::words::word;
 use page::{page, page_need};
 use text::{LINE_FEED, UNALIGNED, put_field};
 
 // The line of a refusal.
+#[tactic(auto, using(text::proofs::DecimalFacts::decimal_most))]
 fn put_number_line(output: &mut [u8], number: usize) -> usize
     requires { 21 ≤ length output.old }
     ensures { Prints (number_line number) output.old 0 output.new result }
@@ -23,6 +24,7 @@ fn put_number_line(output: &mut [u8], number: usize) -> usize
 
 // The pages of an input that passes the program's own order, with the program's lists; or the line of
 // the page's refusal.
+#[tactic(auto, using(crate::proofs::InputFacts::own_passed), unfolding(crate::specs::Input::count_in))]
 fn page_and_print(input: &[u8], output: &mut [u8]) -> usize
     requires input_value { first (own_refusals input.now) ≡ success }
     requires output_places_in_bounds { output_places ≤ length output.old }
@@ -38,7 +40,7 @@ fn page_and_print(input: &[u8], output: &mut [u8]) -> usize
     let mut marks = [0u16; 32768];
     copy_words(input, 2, count, &mut distances);
     copy_words(input, 2 + count, count, &mut parents);
-    let number = page(
+    let paged = page(
         file,
         word(input, 0),
         &distances[..count],
@@ -48,14 +50,16 @@ fn page_and_print(input: &[u8], output: &mut [u8]) -> usize
         &mut marks,
         output,
     );
-    if number != numbers::SUCCESS {
-        return put_number_line(output, number);
+    match paged {
+        Ok(()) => page_need(word(file, 0)),
+        Err(refused) => put_number_line(output, refused.number()),
     }
-    page_need(word(file, 0))
 }
 
 // The page program: what it writes for this input goes to the front of the output, and the answer says
 // how many bytes that is. An output list of fewer than `OUTPUT_PLACES` places is left as it is.
+// `report::respond` differs in both of its steps: a function of the steps would take more clauses on them
+// than this one has lines.
 pub fn respond(input: &[u8], output: &mut [u8]) -> usize
     ensures output_after { respond_exit result output.new ≡ outcome_of_respond input.now output.old }
     ensures upper_bound { result ≤ length output.new }
@@ -63,11 +67,10 @@ pub fn respond(input: &[u8], output: &mut [u8]) -> usize
     if output.len() < OUTPUT_PLACES {
         return 0;
     }
-    let number = own_number(input);
-    if number != numbers::SUCCESS {
-        return put_number_line(output, number);
+    match check_input(input) {
+        Ok(()) => page_and_print(input, output),
+        Err(refused) => put_number_line(output, refused.number()),
     }
-    page_and_print(input, output)
 }
 
 // The page program in its buffers: the first `read` bytes of the input buffer are the input, or all of
@@ -86,9 +89,6 @@ pub fn respond_in(
         ≡ outcome_of_respond (take read input.now) output.old }
     ensures upper_bound { result ≤ length output.new }
 {
-    let all: &[u8] = input;
-    if read < INPUT_PLACES {
-        return respond(&all[..read], output);
-    }
-    respond(all, output)
+    let count = read.min(INPUT_PLACES);
+    respond(&input[..count], output)
 }

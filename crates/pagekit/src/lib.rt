@@ -13,13 +13,13 @@ use testkit::words::at_place;
 // What a page list holds before a call, at every place. No page has this byte.
 pub const BLANK: u8 = 255;
 
-const LINE_FEED: u8 = 10;
+const LINE_FEED: u8 = b'\n';
 
-const SPACE: u8 = 32;
+const SPACE: u8 = b' ';
 
-const DASH: u8 = 45;
+const DASH: u8 = b'-';
 
-const ZERO: u8 = 48;
+const ZERO: u8 = b'0';
 
 // An unset distance or parent.
 const UNSET: u16 = 65535;
@@ -27,27 +27,25 @@ const UNSET: u16 = 65535;
 // How many bytes a line has, how many lines a full page, how many vertices.
 const LINE: usize = 21;
 
+// The column of a line's last figure.
+const LAST: usize = 19;
+
 const PAGE_LINES: usize = 51;
 
 const PAGE_VERTICES: usize = 50;
 
-// `HOPS page `
-const TITLE: [u8; 10] = [72, 79, 80, 83, 32, 112, 97, 103, 101, 32];
+const TITLE: [u8; 10] = *b"HOPS page ";
 
 // How many pages so many vertices begin.
 fn page_count(vertices: u16) -> usize
     ensures { result < 65536 }
 {
-    let n = vertices as usize;
-    if n % PAGE_VERTICES == 0 {
-        return n / PAGE_VERTICES;
-    }
-    n / PAGE_VERTICES + 1
+    usize::from(vertices).div_ceil(PAGE_VERTICES)
 }
 
 // How many bytes the pages of so many vertices have: a line for each vertex, and one for each page.
 pub fn need(vertices: u16) -> usize {
-    LINE * (vertices as usize + page_count(vertices))
+    LINE * (usize::from(vertices) + page_count(vertices))
 }
 
 // A number without its last digits. No number on a page has more than five.
@@ -75,31 +73,27 @@ fn figure(number: usize, column: usize) -> u8 {
 // The same of a distance or a parent.
 fn label(number: u16, column: usize) -> u8 {
     if number != UNSET {
-        return figure(number as usize, column);
+        return figure(usize::from(number), column);
     }
     if column == 0 { DASH } else { SPACE }
 }
 
 // What a page's line one has at a column, counted from 0.
 fn head(number: usize, column: usize) -> u8 {
-    if column < 10 {
-        return TITLE[column];
-    }
-    figure(number, std::num::wrapping_sub_usize(19, column))
+    TITLE
+        .get(column)
+        .copied()
+        .unwrap_or_else(|| figure(number, LAST.wrapping_sub(column)))
 }
 
 // What a vertex's line has at a column, counted from 0.
 fn entry(vertex: usize, distance: u16, parent: u16, column: usize) -> u8 {
-    if column < 5 {
-        return figure(vertex, 4 - column);
+    match column {
+        0..=4 => figure(vertex, 4 - column),
+        5 | 13 => SPACE,
+        6..=12 => label(distance, 12 - column),
+        _ => label(parent, LAST.wrapping_sub(column)),
     }
-    if (column == 5) | (column == 13) {
-        return SPACE;
-    }
-    if column < 13 {
-        return label(distance, 12 - column);
-    }
-    label(parent, std::num::wrapping_sub_usize(19, column))
 }
 
 // What the pages have at a place.
@@ -125,17 +119,10 @@ fn byte_at(place: usize, distances: &[u16], parents: &[u16]) -> u8 {
 
 // Whether the first bytes of the list are the pages' first ones.
 fn is_laid_out(list: &[u8], count: usize, distances: &[u16], parents: &[u16]) -> bool {
-    if list.len() < count {
-        return false;
-    }
-    let mut i = 0;
-    while i < count {
-        if list[i] != byte_at(i, distances, parents) {
-            return false;
-        }
-        i += 1;
-    }
-    true
+    list.get(..count).is_some_and(|first| {
+        let mut bytes = first.iter().enumerate();
+        bytes.all(|(i, byte)| *byte == byte_at(i, distances, parents))
+    })
 }
 
 // Whether the pages of so many vertices stand at the front of a list that held `BLANK`, and the rest of

@@ -113,3 +113,8 @@ module _ (input : List ℕ) where
   pub file_as : {events : ℕ} {file : List ℕ} → events ≡ word input 2 → file ≡ drop (6 + events) input → file ≡ file_in input
   unfolding file_in events_in
   file_as e f = rw (← e) f
+
+-- Each way through the sizes, and through the whole order.
+pub ruleset sizes_order = (sizes_outside, sizes_vertices, sizes_edges, sizes_fit)
+
+pub ruleset own_order = (own_words, own_events, own_file, own_sizes)

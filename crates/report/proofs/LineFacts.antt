@@ -1,13 +1,15 @@
 -- The program's lines in the pieces in which they are printed.
 use mathlib.Core.Path.{◌≡◌, refl, sym, ap, ◌∙◌}
 use mathlib.Core.List.{List, [], ◌∷◌, ◌++◌, append_assoc, map, flatten}
-use Prim.Native.Nat.{ℕ, ◌+◌}
-use lib.ListN.{get_or}
+use Prim.Native.Nat.{ℕ, ◌+◌, ◌≤◌, ◌<◌}
+use native.Mathlib.Omega.{arith}
+use lib.ListN.{length, get_or}
 use Rattle.lists.specs.Lists.{numbers_from}
 use Rattle.lists.proofs.Chunks.{flatten_more}
 use Rattle.lists.proofs.Tests.{map_range_more}
 use Rattle.text.specs.Text.{space, line_feed, decimal, label_text, right_aligned}
 use Rattle.text.specs.Printed.{Prints}
+use Rattle.text.proofs.DecimalFacts.{decimal_short}
 use Rattle.text.proofs.PrintFacts.{prints_then, prints_same}
 use Rattle.text.proofs.TextFacts.{unaligned}
 use Rattle.report.specs.Lines.{first_line, vertex_line, vertex_lines}
@@ -19,6 +21,10 @@ pub first_line_fields : (number used effective layer : ℕ)
     ≡ first_line (record { number = number; used = used; effective = effective; layer = layer })
 unfolding first_line
 first_line_fields number used effective layer = simp (unaligned, append_assoc)
+
+-- a vertex below 1000 has at most three digits
+pub vertex_short : (vertex : ℕ) → vertex < 1000 → length (decimal vertex) ≤ 3
+vertex_short vertex h = decimal_short 3 vertex h (omega arith)
 
 -- a vertex's line, as its fields are printed
 pub vertex_line_fields : (vertex distance parent : ℕ)

@@ -8,7 +8,7 @@ ghost use Rattle.graph.specs.File.{vertex_count};
 ghost use Rattle.report.specs.Input.{file_in, own_refusals, longest_input};
 ghost use Rattle.report.specs.Respond.{searched, lines, output_places, outcome_of_respond};
 
-use crate::input::own_number;
+use crate::input::check_input;
 use crate::lines::{put_first_line, put_vertex_lines};
 use crate::{INPUT_PLACES, OUTPUT_PLACES};
 use graph::words::word;
@@ -33,7 +33,7 @@ fn search_and_print(input: &[u8], output: &mut [u8]) -> usize
     let mut left = [0u16; 4097];
     let mut right = [0u16; 4097];
     let mut values = [0u16; 4097];
-    let answer = search(
+    let found = search(
         file,
         word(input, 0),
         word(input, 1),
@@ -48,15 +48,9 @@ fn search_and_print(input: &[u8], output: &mut [u8]) -> usize
         &mut right,
         &mut values,
     );
-    let next = put_first_line(
-        output,
-        answer.number,
-        answer.used,
-        answer.effective,
-        answer.layer,
-    );
-    let finished = answer.number == numbers::SUCCESS;
-    if finished || answer.number == numbers::UNFINISHED {
+    let next = put_first_line(output, &found);
+    let played = found.is_ok();
+    if played {
         return put_vertex_lines(output, next, word(file, 0), &distances, &parents);
     }
     next
@@ -64,6 +58,8 @@ fn search_and_print(input: &[u8], output: &mut [u8]) -> usize
 
 // The program: what it writes for this input goes to the front of the output, and the answer says how
 // many bytes that is. An output list of fewer than `OUTPUT_PLACES` places is left as it is.
+// `page_report::respond` differs in both of its steps: a function of the steps would take more clauses on them
+// than this one has lines.
 pub fn respond(input: &[u8], output: &mut [u8]) -> usize
     ensures output_after { respond_exit result output.new ≡ outcome_of_respond input.now output.old }
     ensures upper_bound { result ≤ length output.new }
@@ -71,11 +67,10 @@ pub fn respond(input: &[u8], output: &mut [u8]) -> usize
     if output.len() < OUTPUT_PLACES {
         return 0;
     }
-    let number = own_number(input);
-    if number != numbers::SUCCESS {
-        return put_first_line(output, number, 0, 0, 0);
+    match check_input(input) {
+        Ok(()) => search_and_print(input, output),
+        Err(refused) => put_first_line(output, &Err(refused)),
     }
-    search_and_print(input, output)
 }
 
 // The program in its buffers: the first `read` bytes of the input buffer are the input, or all of it
@@ -94,9 +89,6 @@ pub fn respond_in(
         ≡ outcome_of_respond (take read input.now) output.old }
     ensures upper_bound { result ≤ length output.new }
 {
-    let all: &[u8] = input;
-    if read < INPUT_PLACES {
-        return respond(&all[..read], output);
-    }
-    respond(all, output)
+    let count = read.min(INPUT_PLACES);
+    respond(&input[..count], output)
 }

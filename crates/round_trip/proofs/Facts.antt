@@ -13,7 +13,7 @@ use Rattle.graph.specs.File.{file_length}
 use Rattle.graph.specs.Read.{read_exit, outcome_of_read}
 use Rattle.graph.specs.Encode.{encode}
 use Rattle.graph.specs.Write.{row_count, WriteOutcome, write_exit, write_number, outcome_of_write, write_outcome_by}
-use Rattle.graph.specs.declared.ReadAnswer.{ReadAnswer}
+use Rattle.graph.specs.Read.{ReadAnswer}
 use Rattle.graph.proofs.Bridge.{accept_rows, offsets_count}
 use Rattle.graph.proofs.RoundTrip.{written_passed, written_read}
 use Rattle.round_trip.specs.Trip.{trip_exit, trip_after, outcome_of_trip}

@@ -3,9 +3,12 @@
 #![tactic(auto)]
 
 ghost use Rattle.std.specs.Prelude.{◌≡◌};
+ghost use Rattle.numbers.specs.Told.{told};
 ghost use Rattle.round_trip.specs.Trip.{trip_exit, outcome_of_trip};
 
-// Writes the rows and reads back what was written: the writer's number, and with 0 the reader's.
+use numbers::Refused;
+
+// Writes the rows and reads back what was written: the writer's refusal, or the reader's.
 pub fn write_and_read(
     offsets: &[u16],
     targets: &[u16],
@@ -13,17 +16,14 @@ pub fn write_and_read(
     offsets_read: &mut [u16],
     targets_read: &mut [u16],
     marks: &mut [u16],
-) -> usize
-    ensures { trip_exit result file.new offsets_read.new targets_read.new marks.new
+) -> Result<(), Refused>
+    ensures { trip_exit (told result) file.new offsets_read.new targets_read.new marks.new
         ≡ outcome_of_trip offsets.now targets.now file.old
         offsets_read.old targets_read.old marks.old }
 {
-    let number = writer::write(offsets, targets, file);
-    if number != numbers::SUCCESS {
-        return number;
-    }
+    writer::write(offsets, targets, file)?;
     let n = offsets.len() - 1;
     let end = 2 * (2 + n + 2 * targets.len());
-    let answer = graph::read(&file[..end], offsets_read, targets_read, marks);
-    answer.number
+    graph::read(&file[..end], offsets_read, targets_read, marks)?;
+    Ok(())
 }

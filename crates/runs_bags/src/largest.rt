@@ -31,7 +31,7 @@ fn holds_all(
     slots
         & are_parts(
             bags,
-            MOST as usize,
+            usize::from(MOST),
             first,
             second,
             left,
@@ -48,7 +48,7 @@ fn is_free(left: &[u16]) -> bool {
     let mut met = [0u16; 32769];
     let count = free_nodes(left, &mut nodes);
     add_nodes(&mut met, &nodes, count);
-    (count == MOST as usize) & are_ones(&met, 1, MOST as usize)
+    (count == usize::from(MOST)) & are_ones(&met, 1, usize::from(MOST))
 }
 
 // A new pool with all numbers in bag 0.
@@ -68,7 +68,7 @@ fn one_bag(left: &mut [u16], right: &mut [u16], values: &mut [u16]) -> Tally
     let full = full_bag(left, right, values);
     let held = (at(left, 0) == 0) & holds_all(full, 32768, 0, left, right, values);
     let rest = family::drain(full, 0, MOST, left, right, values, &mut found);
-    let out = bag::is_empty(rest[0]) & are_ones(&found, 0, MOST as usize);
+    let out = bag::is_empty(rest[0]) & are_ones(&found, 0, usize::from(MOST));
     Tally::new().with(held).with(out).with(is_free(left))
 }
 
@@ -91,5 +91,5 @@ pub fn run(rt: &impl Print) -> io::Result<()> {
     let mut values = [0u16; 32769];
     let one = one_bag(&mut left, &mut right, &mut values);
     let two = two_bags(&mut left, &mut right, &mut values);
-    one.and(two).print(rt, b"largest bag")
+    one.and(two).print(rt, "largest bag")
 }

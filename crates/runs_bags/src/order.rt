@@ -25,12 +25,10 @@ fn comes_out(
 {
     let mut rest = bags;
     let mut same = true;
-    let mut k = 0;
-    while k < order.len() {
+    for wanted in order {
         let drawn = family::draw(rest, i, left, right, values);
         rest = drawn.bags;
-        same = same & (drawn.value == order[k]);
-        k += 1;
+        same &= drawn.value == Some(*wanted);
     }
     same & bag::is_empty(rest[i])
 }
@@ -100,5 +98,5 @@ fn halves() -> Tally {
 }
 
 pub fn run(rt: &impl Print) -> io::Result<()> {
-    unions().and(halves()).print(rt, b"order of taking")
+    unions().and(halves()).print(rt, "order of taking")
 }

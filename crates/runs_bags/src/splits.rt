@@ -27,7 +27,7 @@ fn gives(count: u16, first: usize, second: usize) -> bool {
     let bags = halves(count, &mut left, &mut right, &mut values);
     are_parts(
         bags,
-        count as usize,
+        usize::from(count),
         first,
         second,
         &left,
@@ -39,17 +39,13 @@ fn gives(count: u16, first: usize, second: usize) -> bool {
 }
 
 fn sizes() -> Tally {
-    let mut tally = Tally::new();
-    let mut count: u16 = 2;
-    while count <= 64 {
-        let held = count as usize;
-        tally = tally.with(gives(count, held - held / 2, held / 2));
-        count += 1;
-    }
-    tally
+    (2..=64).fold(Tally::new(), |tally, count| {
+        let held = usize::from(count);
+        tally.with(gives(count, held - held / 2, held / 2))
+    })
 }
 
 pub fn run(rt: &impl Print) -> io::Result<()> {
     let known = gives(23, 12, 11);
-    sizes().with(known).print(rt, b"splits of every size")
+    sizes().with(known).print(rt, "splits of every size")
 }

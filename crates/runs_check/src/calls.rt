@@ -1,105 +1,64 @@
 // Calls of `verify::check`, each compared in full with what it must answer and leave. The lists may
 // be longer than what is lent of them.
-use checkkit::queries::{Query, is_left};
+use checkkit::queries::{Labels, Query, is_left};
+use numbers::{Refused, told};
 use searchkit::compare::{MARKS_TAG, OFFSETS_TAG, TARGETS_TAG};
-use testkit::files;
-use testkit::words::prefix;
+use testkit::sample::Graph;
+use testkit::words::{first, lent};
 
-// Checks with the first places of the file and of each list.
-fn check_at(
-    file: &[u8],
-    query: Query,
-    distances: &[u16],
-    parents: &[u16],
-    offsets: &mut [u16],
-    targets: &mut [u16],
-    marks: &mut [u16],
-) -> usize {
-    let lengths = query.lengths;
-    let f = files::prefix(file, query.file);
-    let d = prefix(distances, lengths.distances);
-    let p = prefix(parents, lengths.parents);
-    let o = prefix(offsets, lengths.offsets);
-    let t = prefix(targets, lengths.targets);
-    let k = prefix(marks, lengths.marks);
-    verify::check(
-        &file[..f],
-        query.source,
-        &distances[..d],
-        &parents[..p],
-        &mut offsets[..o],
-        &mut targets[..t],
-        &mut marks[..k],
-    )
+// The lists that are lent: N places for the offsets, M for the edges.
+#[derive(Drop)]
+struct Room<const N: usize, const M: usize> {
+    offsets: [u16; N],
+    targets: [u16; M],
+    marks: [u16; M],
 }
 
-// Whether the call answers its number and leaves the lists as it must.
-fn answers_in(
-    file: &[u8],
-    query: Query,
-    distances: &[u16],
-    parents: &[u16],
-    rows: &[u16],
-    row_targets: &[u16],
-    offsets: &mut [u16],
-    targets: &mut [u16],
-    marks: &mut [u16],
-) -> bool {
-    let number = check_at(file, query, distances, parents, offsets, targets, marks);
-    let left = is_left(query, offsets, targets, marks, rows, row_targets);
-    (number == query.number) & left
-}
-
-// With room for every n and m of document 01, and a few places more.
-fn answers_large(
-    file: &[u8],
-    query: Query,
-    distances: &[u16],
-    parents: &[u16],
-    rows: &[u16],
-    row_targets: &[u16],
-) -> bool {
-    let mut offsets = [OFFSETS_TAG; 4102];
-    let mut targets = [TARGETS_TAG; 32773];
-    let mut marks = [MARKS_TAG; 32773];
-    answers_in(
-        file,
-        query,
-        distances,
-        parents,
-        rows,
-        row_targets,
-        &mut offsets,
-        &mut targets,
-        &mut marks,
-    )
-}
-
-// Whether the call answers its number and leaves the lists as it must, with small lists where they
-// are enough. `rows` and `row_targets` are the rows of the file.
-pub fn answers(
-    file: &[u8],
-    query: Query,
-    distances: &[u16],
-    parents: &[u16],
-    rows: &[u16],
-    row_targets: &[u16],
-) -> bool {
-    if (query.vertices > 40) | (query.edges > 120) {
-        return answers_large(file, query, distances, parents, rows, row_targets);
+impl<const N: usize, const M: usize> Room<N, M> {
+    // Lists with a number of its own at all places of each.
+    fn new() -> Self {
+        Room {
+            offsets: [OFFSETS_TAG; N],
+            targets: [TARGETS_TAG; M],
+            marks: [MARKS_TAG; M],
+        }
     }
-    let mut offsets = [OFFSETS_TAG; 52];
-    let mut targets = [TARGETS_TAG; 132];
-    let mut marks = [MARKS_TAG; 132];
-    answers_in(
-        file,
-        query,
-        distances,
-        parents,
-        rows,
-        row_targets,
-        &mut offsets,
-        &mut targets,
-        &mut marks,
-    )
+
+    // Checks with the first places of the file and of each list.
+    fn check(&mut self, file: &[u8], query: Query, labels: Labels) -> Result<(), Refused> {
+        let lengths = query.lengths;
+        verify::check(
+            first(file, query.file),
+            query.source,
+            first(labels.distances, lengths.distances),
+            first(labels.parents, lengths.parents),
+            lent(&mut self.offsets, lengths.offsets),
+            lent(&mut self.targets, lengths.targets),
+            lent(&mut self.marks, lengths.marks),
+        )
+    }
+
+    // Whether the call answers its number and leaves the lists as it must.
+    fn answers(&mut self, graph: Graph, query: Query, labels: Labels) -> bool {
+        let answer = self.check(graph.file, query, labels);
+        let left = is_left(
+            query,
+            &self.offsets,
+            &self.targets,
+            &self.marks,
+            graph.rows,
+            graph.row_targets,
+        );
+        (told(&answer) == query.number) & left
+    }
+}
+
+// Whether the call answers its number and leaves the lists as it must. The lists are small where that
+// is enough; else they have room for every n and m of document 01, and a few places more.
+pub fn answers(graph: Graph, query: Query, labels: Labels) -> bool {
+    if query.vertices > 40 || query.edges > 120 {
+        Room::<4102, 32773>::new().answers(graph, query, labels)
+    } else {
+        Room::<52, 132>::new().answers(graph, query, labels)
+    }
 }

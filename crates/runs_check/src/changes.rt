@@ -1,16 +1,17 @@
 // One vertex's labels changed, in every way that a kind says.
-use crate::plans;
+use crate::plans::Group;
 use checkkit::plans::Plan;
 use checkkit::results::UNSET;
 use searchkit::labels::has_edge;
+use std::ops::Range;
 use testkit::random::{below, next};
 use testkit::sample::after;
 use testkit::words::at;
 
-// The kinds for each vertex, and for each edge.
-pub const VERTEX_KINDS: u16 = 15;
+// How many kinds of changes each vertex has, and each edge.
+const VERTEX_KINDS: u16 = 15;
 
-pub const EDGE_KINDS: u16 = 3;
+const EDGE_KINDS: u16 = 3;
 
 // The new labels of a vertex.
 #[derive(Clone, Copy)]
@@ -20,180 +21,108 @@ pub struct Change {
     pub parent: u16,
 }
 
-// Whether this vertex is one nearer and has no edge to the other.
-fn is_unlinked(from: u16, to: u16, wanted: &[u16], rows: &[u16], row_targets: &[u16]) -> bool {
-    if after(at(wanted, from)) != at(wanted, to) {
-        return false;
-    }
-    has_edge(rows, row_targets, from, to) == false
+// A graph that was drawn, with its file, its edges and rows, and the distances of a right result.
+#[derive(Clone, Copy)]
+pub struct Drawn<'a> {
+    pub plan: Plan,
+    pub file: &'a [u8],
+    pub sources: &'a [u16],
+    pub rows: &'a [u16],
+    pub row_targets: &'a [u16],
+    pub wanted: &'a [u16],
 }
 
-// A vertex that is one nearer and has no edge to this one, the first from a drawn one on; unset
-// where there is none.
-fn unlinked(
-    vertices: u16,
-    vertex: u16,
-    start: u16,
-    wanted: &[u16],
-    rows: &[u16],
-    row_targets: &[u16],
-) -> u16 {
-    let mut other = start;
-    let mut count: u16 = 0;
-    while count < vertices {
-        if is_unlinked(other, vertex, wanted, rows, row_targets) {
-            return other;
-        }
-        other = if after(other) < vertices {
-            after(other)
-        } else {
-            0
-        };
-        count += 1;
+impl Drawn<'_> {
+    // Whether this vertex is one nearer and has no edge to the other.
+    fn is_unlinked(self, from: u16, to: u16) -> bool {
+        let is_nearer = after(at(self.wanted, from)) == at(self.wanted, to);
+        is_nearer && !has_edge(self.rows, self.row_targets, from, to)
     }
-    UNSET
-}
 
-// Another distance: one more, one less, unset, 65,534, 0, a number below n.
-fn new_distance(kind: u16, old: u16, drawn: u16) -> u16 {
-    let more = std::num::wrapping_add_u16(old, 1);
-    let less = std::num::wrapping_sub_u16(old, 1);
-    at(&[more, less, UNSET, 65534, 0, drawn], kind)
-}
+    // A vertex that is one nearer and has no edge to this one, the first from a drawn one on; unset
+    // where there is none.
+    fn unlinked(self, vertex: u16, start: u16) -> u16 {
+        let mut others = (start..self.plan.vertices).chain(0..start);
+        let found = others.find(|other| self.is_unlinked(*other, vertex));
+        found.unwrap_or(UNSET)
+    }
 
-// Another parent: a drawn vertex, the vertex itself, n, 65,534, unset, the source.
-fn new_parent(kind: u16, vertex: u16, drawn: u16, plan: Plan) -> u16 {
-    at(
-        &[drawn, vertex, plan.vertices, 65534, UNSET, plan.source],
-        kind,
-    )
-}
-
-// Both labels: unset; by a drawn parent; by a parent that is one nearer and has no edge.
-fn both(
-    kind: u16,
-    vertex: u16,
-    drawn: u16,
-    plan: Plan,
-    wanted: &[u16],
-    rows: &[u16],
-    row_targets: &[u16],
-) -> Change {
-    if kind == 0 {
-        return Change {
-            vertex,
-            distance: UNSET,
-            parent: UNSET,
-        };
-    }
-    if kind == 1 {
-        return Change {
-            vertex,
-            distance: std::num::wrapping_add_u16(at(wanted, drawn), 1),
-            parent: drawn,
-        };
-    }
-    Change {
-        vertex,
-        distance: at(wanted, vertex),
-        parent: unlinked(plan.vertices, vertex, drawn, wanted, rows, row_targets),
-    }
-}
-
-// A change of a vertex's labels: of the distance, of the parent, of both.
-fn of_vertex(
-    case: u16,
-    plan: Plan,
-    wanted: &[u16],
-    parents: &[u16],
-    rows: &[u16],
-    row_targets: &[u16],
-) -> Change {
-    let vertex = case / VERTEX_KINDS;
-    let kind = case % VERTEX_KINDS;
-    let seed = next(std::num::wrapping_add_u64(plan.seed, case as u64));
-    let drawn = below(seed, plan.vertices);
-    if kind >= 12 {
-        return both(kind - 12, vertex, drawn, plan, wanted, rows, row_targets);
-    }
-    let distance = at(wanted, vertex);
-    if kind >= 6 {
-        return Change {
+    // A change of a vertex's labels: of the distance, of the parent, of both.
+    fn of_vertex(self, case: u16, parents: &[u16]) -> Change {
+        let Plan {
+            vertices,
+            source,
+            seed,
+            ..
+        } = self.plan;
+        let vertex = case / VERTEX_KINDS;
+        let old = at(self.wanted, vertex);
+        let parent = at(parents, vertex);
+        let drawn = below(next(seed.wrapping_add(u64::from(case))), vertices);
+        let kinds = [
+            // Another distance: one more, one less, unset, 65,534, 0, a number below n.
+            (old.wrapping_add(1), parent),
+            (old.wrapping_sub(1), parent),
+            (UNSET, parent),
+            (65534, parent),
+            (0, parent),
+            (drawn, parent),
+            // Another parent: a drawn vertex, the vertex itself, n, 65,534, unset, the source.
+            (old, drawn),
+            (old, vertex),
+            (old, vertices),
+            (old, 65534),
+            (old, UNSET),
+            (old, source),
+            // Both: unset; by a drawn parent; by a parent that is one nearer and has no edge.
+            (UNSET, UNSET),
+            (at(self.wanted, drawn).wrapping_add(1), drawn),
+            (old, self.unlinked(vertex, drawn)),
+        ];
+        let (distance, parent) = kinds[usize::from(case % VERTEX_KINDS)];
+        Change {
             vertex,
             distance,
-            parent: new_parent(kind - 6, vertex, drawn, plan),
-        };
+            parent,
+        }
     }
-    Change {
-        vertex,
-        distance: new_distance(kind, distance, drawn),
-        parent: at(parents, vertex),
+
+    // A change by an edge.
+    fn of_edge(self, case: u16) -> Change {
+        let edge = case / EDGE_KINDS;
+        let source = at(self.sources, edge);
+        let target = at(self.row_targets, edge);
+        let nearer = at(self.wanted, source);
+        let kinds = [
+            // The target gets both labels by it, which may be a longer path, or 0 from an unset source.
+            (target, nearer.wrapping_add(1), source),
+            // The target gets the parent alone.
+            (target, at(self.wanted, target), source),
+            // The source gets the target as its parent.
+            (source, nearer, target),
+        ];
+        let (vertex, distance, parent) = kinds[usize::from(case % EDGE_KINDS)];
+        Change {
+            vertex,
+            distance,
+            parent,
+        }
+    }
+
+    // A change of a group; whole results have none.
+    pub fn change_of(self, group: Group, case: u16, parents: &[u16]) -> Option<Change> {
+        match group {
+            Group::Edges => Some(self.of_edge(case)),
+            Group::Largest | Group::Vertices | Group::LongLists => {
+                Some(self.of_vertex(case, parents))
+            }
+            _ => None,
+        }
     }
 }
 
-// A change by an edge. The target gets both labels by it, which may be a longer path, or 0 from an
-// unset source; or the parent alone; or the source gets the target as its parent.
-fn of_edge(case: u16, sources: &[u16], row_targets: &[u16], wanted: &[u16]) -> Change {
-    let edge = case / EDGE_KINDS;
-    let kind = case % EDGE_KINDS;
-    let source = at(sources, edge);
-    let target = at(row_targets, edge);
-    if kind == 0 {
-        return Change {
-            vertex: target,
-            distance: std::num::wrapping_add_u16(at(wanted, source), 1),
-            parent: source,
-        };
-    }
-    if kind == 1 {
-        return Change {
-            vertex: target,
-            distance: at(wanted, target),
-            parent: source,
-        };
-    }
-    Change {
-        vertex: source,
-        distance: at(wanted, source),
-        parent: target,
-    }
-}
-
-// The change of a case that has none: no list has this place.
-fn nothing() -> Change {
-    Change {
-        vertex: UNSET,
-        distance: 0,
-        parent: 0,
-    }
-}
-
-// A change of a group; whole results have none.
-pub fn change_of(
-    group: u16,
-    case: u16,
-    plan: Plan,
-    sources: &[u16],
-    rows: &[u16],
-    row_targets: &[u16],
-    wanted: &[u16],
-    parents: &[u16],
-) -> Change {
-    if group < plans::LARGE_GROUP {
-        return nothing();
-    }
-    if group == plans::EDGE_GROUP {
-        return of_edge(case, sources, row_targets, wanted);
-    }
-    of_vertex(case, plan, wanted, parents, rows, row_targets)
-}
-
-// The first change for a graph: with 4,096 vertices, each kind at 0, 1, 4,094 and 4,095, else the
-// first of all.
-pub fn first(group: u16, case: u16) -> u16 {
-    if group != plans::LARGE_GROUP {
-        return 0;
-    }
+// The change of one of the largest graphs: with 4,096 vertices, each kind at 0, 1, 4,094 and 4,095.
+fn largest(case: u16) -> u16 {
     let place = case % 60;
     if place < 30 {
         place
@@ -202,14 +131,12 @@ pub fn first(group: u16, case: u16) -> u16 {
     }
 }
 
-// The end of the changes for a graph: one call, or one for each kind of each edge or vertex.
-pub fn last(group: u16, case: u16, plan: Plan) -> u16 {
-    if group < plans::VERTEX_GROUP {
-        return after(first(group, case));
-    }
-    if group == plans::EDGE_GROUP {
-        plan.edges % 128 * EDGE_KINDS
-    } else {
-        plan.vertices % 64 * VERTEX_KINDS
+// The changes for a graph: one call, or one for each kind of each edge or vertex.
+pub fn cases_of(group: Group, case: u16, plan: Plan) -> Range<u16> {
+    match group {
+        Group::Edges => 0..plan.edges % 128 * EDGE_KINDS,
+        Group::Vertices | Group::LongLists => 0..plan.vertices % 64 * VERTEX_KINDS,
+        Group::Largest => largest(case)..after(largest(case)),
+        _ => 0..1,
     }
 }

@@ -15,33 +15,29 @@ pub struct Sums {
     pub tens: u64,
 }
 
-// The sums of no cases.
-pub fn none() -> Sums {
-    Sums {
-        tally: Tally::new(),
-        tens: 0,
+impl Sums {
+    // The sums of no cases.
+    pub fn new() -> Self {
+        Sums {
+            tally: Tally::new(),
+            tens: 0,
+        }
     }
-}
 
-// 1 for the number 10, else 0.
-fn ten(number: usize) -> u64 {
-    if number == 10 { 1 } else { 0 }
-}
-
-// One case more.
-pub fn with(sums: Sums, outcome: Outcome) -> Sums {
-    let tally = sums.tally;
-    Sums {
-        tally: tally.with(outcome.right),
-        tens: std::num::wrapping_add_u64(sums.tens, ten(outcome.number)),
+    // One case more.
+    pub fn with(self, outcome: Outcome) -> Self {
+        let is_ten = outcome.number == 10;
+        Sums {
+            tally: self.tally.with(outcome.right),
+            tens: self.tens.wrapping_add(u64::from(is_ten)),
+        }
     }
-}
 
-// The cases of both.
-pub fn and(first: Sums, second: Sums) -> Sums {
-    let tally = first.tally;
-    Sums {
-        tally: tally.and(second.tally),
-        tens: std::num::wrapping_add_u64(first.tens, second.tens),
+    // The cases of both.
+    pub fn and(self, other: Sums) -> Self {
+        Sums {
+            tally: self.tally.and(other.tally),
+            tens: self.tens.wrapping_add(other.tens),
+        }
     }
 }

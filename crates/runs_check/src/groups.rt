@@ -1,14 +1,14 @@
 // The groups: one loop goes through the cases of a group.
 use crate::calls::answers;
-use crate::group_sums::{Outcome, Sums, and, none, with};
-use crate::{drawn, plans};
+use crate::drawn;
+use crate::group_sums::{Outcome, Sums};
+use crate::plans::{Group, LARGE_CASES, SIZE_CASES};
 use checkkit::plans::COMBINATIONS;
-use checkkit::results::{LONGER, RIGHT};
+use checkkit::queries::Labels;
 use checkkit::tables;
+use checkkit::tables::Table;
 use std::io;
-
-// The groups after those of `plans`: the tables.
-const FIRST_TABLE: u16 = 13;
+use testkit::sample::Graph;
 
 // How many graphs are drawn for right results and longer paths, for other results, for changes, and
 // for changes with longer lists.
@@ -21,88 +21,74 @@ const CHANGED: u16 = 100;
 const LONG: u16 = 20;
 
 // A case of a table.
-fn tabled(table: u16, case: u16) -> Outcome {
+fn tabled(table: Table, case: u16) -> Outcome {
     let mut file = [0u8; 32];
     let mut distances = tables::DISTANCES;
     let mut parents = tables::PARENTS;
     let made = tables::make(table, case, &mut file);
     let query = made.query;
     tables::put_labels(made.labels, &mut distances, &mut parents);
-    let right = answers(
-        &file,
-        query,
-        &distances,
-        &parents,
-        &tables::ROWS,
-        &tables::ROW_TARGETS,
-    );
+    let graph = Graph {
+        file: &file,
+        rows: &tables::ROWS,
+        row_targets: &tables::ROW_TARGETS,
+    };
+    let labels = Labels {
+        distances: &distances,
+        parents: &parents,
+    };
     Outcome {
         number: query.number,
-        right,
+        right: answers(graph, query, labels),
     }
 }
 
-// A case of a group.
-fn sums_of(group: u16, case: u16) -> Sums {
-    if group < FIRST_TABLE {
-        return drawn::sums_of(group, case);
-    }
-    with(none(), tabled(group - FIRST_TABLE, case))
-}
-
-// All cases of a group.
-fn all(group: u16, cases: u16) -> Sums {
-    let mut sums = none();
-    let mut case: u16 = 0;
-    while case < cases {
-        sums = and(sums, sums_of(group, case));
-        case += 1;
+// All cases of a group of drawn graphs.
+fn all_drawn(group: Group, cases: u16) -> Sums {
+    let mut sums = Sums::new();
+    for case in 0..cases {
+        sums = sums.and(drawn::sums_of(group, case));
     }
     sums
 }
 
-// The group's line, and how many of its results were wrong.
-fn print(rt: &impl Print, group: u16, cases: u16, name: &str) -> io::Result<()> {
-    let sums = all(group, cases);
-    let tally = sums.tally;
-    let tens = sums.tens;
-    tally.print(rt, name.as_bytes())?;
+// All cases of a table.
+fn all_tabled(table: Table, cases: u16) -> Sums {
+    let mut sums = Sums::new();
+    for case in 0..cases {
+        sums = sums.with(tabled(table, case));
+    }
+    sums
+}
+
+// A group's line, and how many of its results were wrong.
+fn print(rt: &impl Print, name: &str, sums: Sums) -> io::Result<()> {
+    let Sums { tally, tens } = sums;
+    tally.print(rt, name)?;
     println!(rt; "{tens} of them number 10")
 }
 
 // Results of small graphs.
 fn run_results(rt: &impl Print) -> io::Result<()> {
-    print(rt, RIGHT, GRAPHS, "right results")?;
-    print(rt, plans::VERTEX_GROUP, CHANGED, "changed labels")?;
-    print(rt, plans::EDGE_GROUP, CHANGED, "other edges")?;
-    print(rt, plans::LONG_GROUP, LONG, "longer lists")?;
-    print(rt, LONGER, GRAPHS, "longer paths")?;
-    print(rt, plans::OTHER_GROUP, OTHERS, "other results")
+    print(rt, "right results", all_drawn(Group::Right, GRAPHS))?;
+    print(rt, "changed labels", all_drawn(Group::Vertices, CHANGED))?;
+    print(rt, "other edges", all_drawn(Group::Edges, CHANGED))?;
+    print(rt, "longer lists", all_drawn(Group::LongLists, LONG))?;
+    print(rt, "longer paths", all_drawn(Group::LongerPaths, GRAPHS))?;
+    print(rt, "other results", all_drawn(Group::Others, OTHERS))
 }
 
 // Refusals, lengths and sizes.
 fn run_inputs(rt: &impl Print) -> io::Result<()> {
-    print(
-        rt,
-        FIRST_TABLE + tables::REFUSAL_TABLE,
-        tables::REFUSAL_CASES,
-        "refusals",
-    )?;
-    print(
-        rt,
-        FIRST_TABLE + tables::SOURCE_TABLE,
-        tables::SOURCE_CASES,
-        "sources",
-    )?;
-    print(
-        rt,
-        FIRST_TABLE + tables::FAULT_TABLE,
-        tables::FAULT_CASES,
-        "sets of faults",
-    )?;
-    print(rt, plans::LENGTH_GROUP, COMBINATIONS, "lengths")?;
-    print(rt, plans::SIZE_GROUP, plans::SIZE_CASES, "sizes")?;
-    print(rt, plans::LARGE_GROUP, plans::LARGE_CASES, "largest graphs")
+    let refusals = all_tabled(Table::Refusals, tables::REFUSAL_CASES);
+    print(rt, "refusals", refusals)?;
+    let sources = all_tabled(Table::Sources, tables::SOURCE_CASES);
+    print(rt, "sources", sources)?;
+    let faults = all_tabled(Table::Faults, tables::FAULT_CASES);
+    print(rt, "sets of faults", faults)?;
+    print(rt, "lengths", all_drawn(Group::Lengths, COMBINATIONS))?;
+    print(rt, "sizes", all_drawn(Group::Sizes, SIZE_CASES))?;
+    print(rt, "largest graphs", all_drawn(Group::Largest, LARGE_CASES))
 }
 
 pub fn run(rt: &impl Print) -> io::Result<()> {

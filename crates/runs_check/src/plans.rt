@@ -1,28 +1,28 @@
 // What is drawn for a case of a group: the graph, the source, and how long the lists are.
 use checkkit::plans::{AT_NEED, Plan, lent, sized, small};
-use checkkit::results::SECOND;
+use checkkit::results::{Kind, OTHERS};
 use searchkit::requests::{Lengths, needs};
 use testkit::sample::after;
 use testkit::words::at;
 
-// The first two kinds of results are groups of small graphs; the others are one group.
-pub const OTHER_GROUP: u16 = 6;
-
-// Right results with lists of every length, and of graphs of every size.
-pub const LENGTH_GROUP: u16 = 7;
-
-pub const SIZE_GROUP: u16 = 8;
-
-// Right results with one change: of the largest graph, and of a path of 4,096 vertices.
-pub const LARGE_GROUP: u16 = 9;
-
-// Right results of small graphs with every change of a vertex, by an edge, and of a vertex with
-// longer lists.
-pub const VERTEX_GROUP: u16 = 10;
-
-pub const EDGE_GROUP: u16 = 11;
-
-pub const LONG_GROUP: u16 = 12;
+// The groups of drawn graphs.
+#[derive(Clone, Copy, PartialEq, Eq)]
+pub enum Group {
+    // Small graphs: right results; longer paths; the other kinds of results.
+    Right,
+    LongerPaths,
+    Others,
+    // Right results with lists of every length, and of graphs of every size.
+    Lengths,
+    Sizes,
+    // Right results with one change: of the largest graph, and of a path of 4,096 vertices.
+    Largest,
+    // Right results of small graphs with every change of a vertex, by an edge, and of a vertex with
+    // longer lists.
+    Vertices,
+    Edges,
+    LongLists,
+}
 
 // How many cases some groups have.
 pub const SIZE_CASES: u16 = 14;
@@ -33,45 +33,38 @@ pub const LARGE_CASES: u16 = 120;
 const SHORT: [u16; 5] = [120, 118, 112, 94, 40];
 
 // The kind of a case's result.
-pub fn kind_of(group: u16, case: u16) -> u16 {
-    if group == OTHER_GROUP {
-        SECOND + case % 4
-    } else {
-        group
+pub fn kind_of(group: Group, case: u16) -> Kind {
+    match group {
+        Group::LongerPaths => Kind::Longer,
+        Group::Others => OTHERS[usize::from(case % 4)],
+        _ => Kind::Right,
     }
 }
 
 // Whether the graph of a case is a path: half of the largest graphs' cases.
-pub fn is_path(group: u16, case: u16) -> bool {
-    (group == LARGE_GROUP) & (case >= 60)
+pub fn is_path(group: Group, case: u16) -> bool {
+    group == Group::Largest && case >= 60
 }
 
-// The least size, the most, or one more.
+// The least size, the most, or one more, by a digit of a case's number: an enum of it would be made here
+// alone.
 fn side(choice: u16, least: u16, most: u16) -> u16 {
-    if choice == 0 {
-        return least;
+    match choice {
+        0 => least,
+        1 => most,
+        _ => after(most),
     }
-    if choice == 1 { most } else { after(most) }
 }
 
 // The graph and the source of a case.
-pub fn plan_of(group: u16, case: u16) -> Plan {
-    if group < LENGTH_GROUP {
-        return small(case);
+pub fn plan_of(group: Group, case: u16) -> Plan {
+    match group {
+        Group::Lengths => sized(37, 101),
+        Group::Sizes if case < 9 => sized(side(case % 3, 1, 4096), side(case / 3, 0, 32768)),
+        Group::Largest if is_path(group, case) => sized(4096, 4095),
+        Group::Sizes | Group::Largest => sized(4096, 32768),
+        _ => small(case),
     }
-    if group > LARGE_GROUP {
-        return small(case);
-    }
-    if group == LENGTH_GROUP {
-        return sized(37, 101);
-    }
-    if is_path(group, case) {
-        return sized(4096, 4095);
-    }
-    if (group == SIZE_GROUP) & (case < 9) {
-        return sized(side(case % 3, 1, 4096), side(case / 3, 0, 32768));
-    }
-    sized(4096, 32768)
 }
 
 // The first nine sizes are with lists at their need, the others with one list short.
@@ -83,13 +76,11 @@ fn size_combination(case: u16) -> u16 {
 }
 
 // How long the lists are: by the group, else at their need or up to three places longer.
-pub fn lengths_of(group: u16, case: u16, plan: Plan) -> Lengths {
-    if group == LENGTH_GROUP {
-        return lent(plan, case);
+pub fn lengths_of(group: Group, case: u16, plan: Plan) -> Lengths {
+    match group {
+        Group::Lengths => lent(plan, case),
+        Group::Sizes => lent(plan, size_combination(case)),
+        Group::LongLists => needs(plan.vertices, plan.edges, 1, 8),
+        _ => needs(plan.vertices, plan.edges, 1, case % 4),
     }
-    if group == SIZE_GROUP {
-        return lent(plan, size_combination(case));
-    }
-    let more = if group == LONG_GROUP { 8 } else { case % 4 };
-    needs(plan.vertices, plan.edges, 1, more)
 }

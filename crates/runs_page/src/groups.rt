@@ -1,15 +1,15 @@
-// The groups: one loop goes through the cases of a group.
+// The groups: the cases of a group are tried one after the other.
 use crate::calls::{Outcome, call};
+use crate::plans::Group;
 use crate::{drawn, plans};
 use checkkit::plans::length;
+use checkkit::queries::Labels;
 use checkkit::tables;
+use checkkit::tables::Table;
 use pagekit::need;
 use std::io;
 use testkit::group::Tally;
-
-// The groups after those of `plans`: the tables, each case with a page list one byte short, at its
-// need and longer.
-const FIRST_TABLE: u16 = 4;
+use testkit::sample::Graph;
 
 // The tally, how many of the cases had to be laid out, and in how many it was the page list alone
 // that was too short.
@@ -20,103 +20,95 @@ struct Sums {
     late: u64,
 }
 
-// The sums of no cases.
-fn none() -> Sums {
-    Sums {
-        tally: Tally::new(),
-        laid: 0,
-        late: 0,
+impl Sums {
+    // The sums of no cases.
+    fn new() -> Self {
+        Sums {
+            tally: Tally::new(),
+            laid: 0,
+            late: 0,
+        }
     }
-}
 
-// One more where it is wanted.
-fn more(count: u64, is_wanted: bool) -> u64 {
-    if is_wanted {
-        std::num::wrapping_add_u64(count, 1)
-    } else {
-        count
-    }
-}
-
-// One case more.
-fn with(sums: Sums, outcome: Outcome) -> Sums {
-    let tally = sums.tally;
-    Sums {
-        tally: tally.with(outcome.right),
-        laid: more(sums.laid, outcome.number == 0),
-        late: more(sums.late, outcome.late),
+    // One case more.
+    fn with(self, outcome: Outcome) -> Self {
+        let Sums { tally, laid, late } = self;
+        Sums {
+            tally: tally.with(outcome.right),
+            laid: laid.wrapping_add(u64::from(outcome.number == 0)),
+            late: late.wrapping_add(u64::from(outcome.late)),
+        }
     }
 }
 
 // A case of a table, with a page list of this choice.
-fn tabled(table: u16, case: u16, choice: u16) -> Outcome {
+fn tabled(table: Table, case: u16, choice: u16) -> Outcome {
     let mut file = [0u8; 32];
     let mut distances = tables::DISTANCES;
     let mut parents = tables::PARENTS;
     let made = tables::make(table, case, &mut file);
     tables::put_labels(made.labels, &mut distances, &mut parents);
-    call(
-        &file,
-        made.query,
-        length(need(4), choice),
-        &distances,
-        &parents,
-        &tables::ROWS,
-        &tables::ROW_TARGETS,
-    )
+    let graph = Graph {
+        file: &file,
+        rows: &tables::ROWS,
+        row_targets: &tables::ROW_TARGETS,
+    };
+    let labels = Labels {
+        distances: &distances,
+        parents: &parents,
+    };
+    call(graph, made.query, length(need(4), choice), labels)
 }
 
-// A case of a group.
-fn outcome_of(group: u16, case: u16) -> Outcome {
-    if group < FIRST_TABLE {
-        return drawn::outcome_of(group, case);
-    }
-    tabled(group - FIRST_TABLE, case / 3, case % 3)
-}
-
-// All cases of a group.
-fn all(group: u16, cases: u16) -> Sums {
-    let mut sums = none();
-    let mut case: u16 = 0;
-    while case < cases {
-        sums = with(sums, outcome_of(group, case));
-        case += 1;
+// All cases of a group. `testkit`'s `all` counts what is right alone; here sums of its own are added up.
+fn all<F: Fn(u16) -> Outcome>(cases: u16, outcome_of: F) -> Sums
+    requires { F.IsAlwaysCallable outcome_of }
+{
+    let mut sums = Sums::new();
+    for case in 0..cases {
+        sums = sums.with(outcome_of(case));
     }
     sums
 }
 
 // The group's line, and one that says how many of its cases were laid out, and how many refused for
 // the page list alone.
-fn print(rt: &impl Print, group: u16, cases: u16, name: &str) -> io::Result<()> {
-    let sums = all(group, cases);
-    let tally = sums.tally;
-    let laid = sums.laid;
-    let late = sums.late;
-    tally.print(rt, name.as_bytes())?;
+fn print(rt: &impl Print, name: &str, sums: Sums) -> io::Result<()> {
+    let Sums { tally, laid, late } = sums;
+    tally.print(rt, name)?;
     println!(rt; "{laid} of them laid out, {late} with the page list too short")
 }
 
+// The groups of `plans`.
+fn print_drawn(rt: &impl Print) -> io::Result<()> {
+    for (name, group, cases) in [
+        ("sizes", Group::Sizes, plans::SIZE_CASES),
+        ("results", Group::Results, plans::RESULT_CASES),
+        ("lengths", Group::Lengths, plans::LENGTH_CASES),
+        ("too large", Group::Large, plans::LARGE_CASES),
+    ] {
+        print(rt, name, all(cases, |case| drawn::outcome_of(group, case)))?;
+    }
+    Ok(())
+}
+
+// The tables, each case with a page list one byte short, at its need and longer.
+fn print_tables(rt: &impl Print) -> io::Result<()> {
+    for (name, table, cases) in [
+        ("refusals", Table::Refusals, 3 * tables::REFUSAL_CASES),
+        ("sources", Table::Sources, 3 * tables::SOURCE_CASES),
+        ("sets of faults", Table::Faults, 3 * tables::FAULT_CASES),
+    ] {
+        print(
+            rt,
+            name,
+            all(cases, |case| tabled(table, case / 3, case % 3)),
+        )?;
+    }
+    Ok(())
+}
+
 pub fn run(rt: &impl Print) -> io::Result<()> {
-    print(rt, plans::SIZE_GROUP, plans::SIZE_CASES, "sizes")?;
-    print(rt, plans::RESULT_GROUP, plans::RESULT_CASES, "results")?;
-    print(rt, plans::LENGTH_GROUP, plans::LENGTH_CASES, "lengths")?;
-    print(rt, plans::LARGE_GROUP, plans::LARGE_CASES, "too large")?;
-    print(
-        rt,
-        FIRST_TABLE + tables::REFUSAL_TABLE,
-        3 * tables::REFUSAL_CASES,
-        "refusals",
-    )?;
-    print(
-        rt,
-        FIRST_TABLE + tables::SOURCE_TABLE,
-        3 * tables::SOURCE_CASES,
-        "sources",
-    )?;
-    print(
-        rt,
-        FIRST_TABLE + tables::FAULT_TABLE,
-        3 * tables::FAULT_CASES,
-        "sets of faults",
-    )
+    print_drawn(rt)?;
+    print_tables(rt)
 }

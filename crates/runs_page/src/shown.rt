@@ -1,22 +1,22 @@
 // Pages written whole: case A of document 01, from its source and from another vertex, and paths of
 // one vertex and of one more than a page has.
-use crate::calls::page_at;
+use crate::calls::Room;
 use checkkit::graphs::draw;
 use checkkit::plans::{Plan, sized};
-use checkkit::queries::Query;
+use checkkit::queries::{Labels, Query};
 use checkkit::results;
-use checkkit::results::{RIGHT, UNSET};
+use checkkit::results::{Kind, UNSET};
 use pagekit::need;
 use searchkit::base::FILE;
 use searchkit::requests::needs;
 use std::io;
-use testkit::files::{prefix, put_words};
+use testkit::files::{first, put_words};
 use testkit::sample::file_length;
 
 // A right result with lists at their need.
 fn query_of(plan: Plan) -> Query {
     Query {
-        source: plan.source as usize,
+        source: usize::from(plan.source),
         vertices: plan.vertices,
         edges: plan.edges,
         file: file_length(plan.vertices, plan.edges),
@@ -25,7 +25,7 @@ fn query_of(plan: Plan) -> Query {
     }
 }
 
-// Writes a name and the pages of up to 60 vertices and edges.
+// Writes a name and the pages of up to 60 vertices and edges, or the number of a refusal.
 fn show(
     rt: &impl Print,
     name: &str,
@@ -34,25 +34,17 @@ fn show(
     distances: &[u16],
     parents: &[u16],
 ) -> io::Result<()> {
-    let mut offsets = [0u16; 61];
-    let mut targets = [0u16; 60];
-    let mut marks = [0u16; 60];
-    let mut bytes = [0u8; 1302];
-    let room = need(plan.vertices);
-    page_at(
-        file,
-        query_of(plan),
-        room,
-        distances,
-        parents,
-        &mut offsets,
-        &mut targets,
-        &mut marks,
-        &mut bytes,
-    );
-    let count = prefix(&bytes, room);
+    let mut room = Room::<61, 60, 1302>::new();
+    let places = need(plan.vertices);
+    let labels = Labels { distances, parents };
     println!(rt; "{name}")?;
-    rt.write_all(&bytes[..count])
+    match room.page(file, query_of(plan), places, labels) {
+        Ok(()) => rt.write_all(first(&room.bytes, places)),
+        Err(refused) => {
+            let number = refused.number();
+            println!(rt; "refused with {number}")
+        }
+    }
 }
 
 // Case A's file from a vertex on, with these labels.
@@ -94,7 +86,7 @@ fn path(rt: &impl Print, name: &str, edges: u16) -> io::Result<()> {
         &mut order,
     );
     results::make(
-        RIGHT,
+        Kind::Right,
         plan,
         &sources,
         &rows,

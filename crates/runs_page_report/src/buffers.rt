@@ -2,12 +2,10 @@
 // with bytes behind them, of which the input buffer has as many as it has places.
 use crate::drawn::{Task, is_done};
 use checkkit::plans::sized;
-use checkkit::results::RIGHT;
-
-pub const ROWS: u16 = 9;
+use checkkit::results::Kind;
 
 // n, m, the count, bytes behind the input, the number.
-const CASES: [[u16; 5]; 9] = [
+pub const CASES: [[u16; 5]; 9] = [
     // the longest input; with a byte behind it the input buffer is full
     [4096, 32768, 4096, 0, 0],
     [4096, 32768, 4096, 1, 1],
@@ -22,25 +20,15 @@ const CASES: [[u16; 5]; 9] = [
     [4096, 32767, 4096, 5, 1],
 ];
 
-// A place of the table; 0 outside it.
-fn cell(row: u16, column: usize) -> u16 {
-    let i = row as usize;
-    if i < 9 {
-        if column < 5 {
-            return CASES[i][column];
-        }
-    }
-    0
-}
-
-pub fn is_right(row: u16) -> bool {
+pub fn is_right(row: &[u16; 5]) -> bool {
+    let [vertices, edges, count, more, number] = *row;
     is_done(Task {
-        plan: sized(cell(row, 0), cell(row, 1)),
+        plan: sized(vertices, edges),
         path: 0,
-        kind: RIGHT,
-        count: cell(row, 2),
-        more: cell(row, 3) as usize,
-        number: cell(row, 4),
+        kind: Kind::Right,
+        count,
+        more: usize::from(more),
+        number: Some(number),
         in_buffers: true,
     })
 }

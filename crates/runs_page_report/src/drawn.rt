@@ -1,9 +1,9 @@
 // Results of drawn graphs and of paths.
 use crate::inputs::{Parts, compose};
-use crate::replies::{answers, answers_in};
+use crate::replies::{Wanted, answers, answers_in};
 use checkkit::graphs::draw;
 use checkkit::plans::{Plan, medium};
-use checkkit::results::{KINDS, UNSET, make_judged};
+use checkkit::results::{KINDS, Kind, UNSET, make_judged};
 use testkit::sample::file_length;
 
 // So many graphs, each with a result of the next kind.
@@ -16,20 +16,11 @@ pub const CASES: u16 = 600;
 pub struct Task {
     pub plan: Plan,
     pub path: u16,
-    pub kind: u16,
+    pub kind: Kind,
     pub count: u16,
     pub more: usize,
-    pub number: u16,
+    pub number: Option<u16>,
     pub in_buffers: bool,
-}
-
-// The number of a task for which a result has this one.
-fn number_of(task: Task, res: usize) -> u16 {
-    if task.number == 0 {
-        (res % 65536) as u16
-    } else {
-        task.number
-    }
 }
 
 // Puts the input together, asks for its first bytes up to so many places behind its end, and compares.
@@ -42,11 +33,17 @@ fn is_answered(task: Task, number: u16, distances: &[u16], parents: &[u16], file
         file: file_length(plan.vertices, plan.edges),
     };
     let length = compose(&mut input, parts, distances, parents, file);
-    let given = std::num::wrapping_add_usize(length, task.more);
+    let given = length.wrapping_add(task.more);
+    let wanted = Wanted {
+        number,
+        vertices: plan.vertices,
+        distances,
+        parents,
+    };
     if task.in_buffers {
-        return answers_in(&input, given, number, plan.vertices, distances, parents);
+        return answers_in(&input, given, wanted);
     }
-    answers(&input, given, number, plan.vertices, distances, parents)
+    answers(&input, given, wanted)
 }
 
 // Makes the result of a task for its graph, judges it, and asks.
@@ -62,28 +59,8 @@ fn is_judged(task: Task, file: &[u8], sources: &[u16], rows: &[u16], row_targets
         &mut distances,
         &mut parents,
     );
-    is_answered(task, number_of(task, result), &distances, &parents, file)
-}
-
-// Draws the graph of a task into these lists, and asks.
-fn is_right_in(
-    task: Task,
-    file: &mut [u8; 139280],
-    sources: &mut [u16; 32769],
-    row_targets: &mut [u16; 32769],
-    rows: &mut [u16; 4098],
-    order: &mut [u16; 32769],
-) -> bool {
-    draw(
-        task.path,
-        task.plan,
-        file,
-        sources,
-        row_targets,
-        rows,
-        order,
-    );
-    is_judged(task, file, sources, rows, row_targets)
+    let number = task.number.unwrap_or((result % 65536) as u16);
+    is_answered(task, number, &distances, &parents, file)
 }
 
 // Whether a task is answered as it must be.
@@ -93,14 +70,16 @@ pub fn is_done(task: Task) -> bool {
     let mut row_targets = [0u16; 32769];
     let mut rows = [0u16; 4098];
     let mut order = [0u16; 32769];
-    is_right_in(
-        task,
+    draw(
+        task.path,
+        task.plan,
         &mut file,
         &mut sources,
         &mut row_targets,
         &mut rows,
         &mut order,
-    )
+    );
+    is_judged(task, &file, &sources, &rows, &row_targets)
 }
 
 // A drawn graph; up to three places of rubbish stand behind the labels.
@@ -109,10 +88,10 @@ pub fn is_right(case: u16) -> bool {
     is_done(Task {
         plan,
         path: 0,
-        kind: case % KINDS,
-        count: std::num::wrapping_add_u16(plan.vertices, case / KINDS % 4),
+        kind: KINDS[usize::from(case % 6)],
+        count: plan.vertices.wrapping_add(case / 6 % 4),
         more: 0,
-        number: 0,
+        number: None,
         in_buffers: false,
     })
 }

@@ -1,7 +1,7 @@
 // Inputs with every set of faults: each must give the first number of the program's order. Two faults
 // are the program's own; the others are `searchkit`'s, but for those of the search alone.
 use crate::inputs::{Parts, compose};
-use crate::replies::answers;
+use crate::replies::{Wanted, answers};
 use checkkit::tables;
 use searchkit::faults;
 
@@ -95,12 +95,11 @@ pub fn is_right(combination: u16) -> bool {
         &parents,
         &file,
     );
-    answers(
-        &input,
-        given(combination, length),
-        expected(combination),
-        4,
-        &distances,
-        &parents,
-    )
+    let wanted = Wanted {
+        number: expected(combination),
+        vertices: 4,
+        distances: &distances,
+        parents: &parents,
+    };
+    answers(&input, given(combination, length), wanted)
 }

@@ -13,22 +13,19 @@ pub struct Parts {
 
 // Where the file starts.
 pub fn file_start(count: u16) -> usize {
-    4 + 4 * (count as usize)
+    4 + 4 * usize::from(count)
 }
 
-// Stores the first numbers of a list as words from a place on that counts words.
+// Stores the first numbers of a list, and 0 past its end, as words from a place on that counts words.
 fn put_labels(input: &mut [u8], place: usize, list: &[u16], count: u16) {
-    let mut i: u16 = 0;
-    while i < count {
-        let to = std::num::wrapping_add_usize(place, i as usize);
-        put_word(input, to, at(list, i));
-        i += 1;
+    for i in 0..count {
+        put_word(input, place.wrapping_add(usize::from(i)), at(list, i));
     }
 }
 
 // Stores a word of the file.
 pub fn put_file_word(input: &mut [u8], count: u16, place: u16, word: u16) {
-    let i = std::num::wrapping_add_usize(file_start(count), 2 * (place as usize));
+    let i = file_start(count).wrapping_add(2 * usize::from(place));
     put_word_at(input, i, word);
 }
 
@@ -44,9 +41,9 @@ pub fn compose(
     put_word(input, 0, parts.source);
     put_word(input, 1, parts.count);
     put_labels(input, 2, distances, parts.count);
-    put_labels(input, 2 + parts.count as usize, parents, parts.count);
+    put_labels(input, 2 + usize::from(parts.count), parents, parts.count);
     copy(file, parts.file, input, start);
-    std::num::wrapping_add_usize(start, parts.file)
+    start.wrapping_add(parts.file)
 }
 
 // Case A's input, with these labels. It has 48 bytes.

@@ -4,15 +4,14 @@ use crate::inputs::put_square;
 use crate::replies::respond;
 use pagekit::BLANK;
 use std::io;
-use testkit::files::prefix;
+use testkit::files::first;
 
 // Writes a name and the output.
 fn show(rt: &impl Print, name: &str, input: &[u8]) -> io::Result<()> {
     let mut output = [BLANK; 87738];
     let count = respond(input, input.len(), &mut output, 87738);
-    let c = prefix(&output, count);
     println!(rt; "{name}")?;
-    rt.write_all(&output[..c])
+    rt.write_all(first(&output, count))
 }
 
 // Case A from a vertex on, with these labels.

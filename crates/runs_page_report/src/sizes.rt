@@ -1,12 +1,10 @@
 // Right results of every size that the program takes, and inputs that are too large or too long.
 use crate::drawn::{Task, is_done};
 use checkkit::plans::sized;
-use checkkit::results::RIGHT;
-
-pub const ROWS: u16 = 22;
+use checkkit::results::Kind;
 
 // n, m, how many edges are a path, the count, bytes behind the input, the number.
-const CASES: [[u16; 6]; 22] = [
+pub const CASES: [[u16; 6]; 22] = [
     [1, 0, 0, 1, 0, 0],
     [49, 48, 48, 49, 0, 0],
     [50, 49, 49, 50, 0, 0],
@@ -35,25 +33,15 @@ const CASES: [[u16; 6]; 22] = [
     [4096, 4095, 4095, 4096, 2, 1],
 ];
 
-// A place of the table; 0 outside it.
-fn cell(row: u16, column: usize) -> u16 {
-    let i = row as usize;
-    if i < 22 {
-        if column < 6 {
-            return CASES[i][column];
-        }
-    }
-    0
-}
-
-pub fn is_right(row: u16) -> bool {
+pub fn is_right(row: &[u16; 6]) -> bool {
+    let [vertices, edges, path, count, more, number] = *row;
     is_done(Task {
-        plan: sized(cell(row, 0), cell(row, 1)),
-        path: cell(row, 2),
-        kind: RIGHT,
-        count: cell(row, 3),
-        more: cell(row, 4) as usize,
-        number: cell(row, 5),
+        plan: sized(vertices, edges),
+        path,
+        kind: Kind::Right,
+        count,
+        more: usize::from(more),
+        number: Some(number),
         in_buffers: false,
     })
 }

@@ -1,21 +1,19 @@
 // Inputs for each step of the program's own order, one by one and with the next step's fault beside
 // it; and `checkkit`'s tables of refusals and of sources, handed to the program.
 use crate::inputs::{Parts, compose, put_file_word};
-use crate::replies::answers;
+use crate::replies::{Wanted, answers};
 use checkkit::tables;
+use checkkit::tables::Table;
 use testkit::files::put_word;
 
-// The cases of the program's own order, of the refusals, and of the sources: all results with each of
-// the seven that are words.
-pub const OWN: u16 = 36;
-
+// The cases of the refusals, and of the sources: all results with each of the seven that are words.
 pub const REFUSALS: u16 = tables::REFUSAL_CASES;
 
 pub const SOURCES: u16 = 49;
 
 // The input's length; the count; n; m; the number. The source is 0; all other bytes are 0, so that
 // records make 6, and a right result has one vertex.
-const OWN_CASES: [[u16; 5]; 36] = [
+pub const OWN_CASES: [[u16; 5]; 36] = [
     // fewer than two words, whatever they say
     [0, 0, 1, 0, 1],
     [1, 0, 1, 0, 1],
@@ -61,29 +59,24 @@ const OWN_CASES: [[u16; 5]; 36] = [
     [16394, 4096, 1, 0, 0],
 ];
 
-// A place of the table; 0 outside it.
-fn cell(row: u16, column: usize) -> u16 {
-    let i = row as usize;
-    if i < 36 {
-        if column < 5 {
-            return OWN_CASES[i][column];
-        }
-    }
-    0
-}
-
 // A case of the program's own order.
-pub fn own_is_right(row: u16) -> bool {
+pub fn own_is_right(row: &[u16; 5]) -> bool {
+    let [length, count, n, m, number] = *row;
     let mut input = [0u8; 20000];
-    let count = cell(row, 1);
     put_word(&mut input, 1, count);
-    put_file_word(&mut input, count, 0, cell(row, 2));
-    put_file_word(&mut input, count, 1, cell(row, 3));
-    answers(&input, cell(row, 0) as usize, cell(row, 4), 1, &[0], &[0])
+    put_file_word(&mut input, count, 0, n);
+    put_file_word(&mut input, count, 1, m);
+    let wanted = Wanted {
+        number,
+        vertices: 1,
+        distances: &[0],
+        parents: &[0],
+    };
+    answers(&input, usize::from(length), wanted)
 }
 
 // A case of one of `checkkit`'s tables: the count is the distances' length there.
-fn is_right(table: u16, case: u16) -> bool {
+fn is_right(table: Table, case: u16) -> bool {
     let mut file = [0u8; 32];
     let mut distances = tables::DISTANCES;
     let mut parents = tables::PARENTS;
@@ -98,16 +91,21 @@ fn is_right(table: u16, case: u16) -> bool {
         file: query.file,
     };
     let length = compose(&mut input, parts, &distances, &parents, &file);
-    let number = (query.number % 65536) as u16;
-    answers(&input, length, number, 4, &distances, &parents)
+    let wanted = Wanted {
+        number: (query.number % 65536) as u16,
+        vertices: 4,
+        distances: &distances,
+        parents: &parents,
+    };
+    answers(&input, length, wanted)
 }
 
 // A case of the table of refusals.
 pub fn refusal_is_right(case: u16) -> bool {
-    is_right(tables::REFUSAL_TABLE, case)
+    is_right(Table::Refusals, case)
 }
 
 // A case of the table of sources, of which the first seven are words.
 pub fn source_is_right(case: u16) -> bool {
-    is_right(tables::SOURCE_TABLE, case % 7 + case / 7 % 7 * 12)
+    is_right(Table::Sources, case % 7 + case / 7 % 7 * 12)
 }

@@ -1,7 +1,7 @@
 // Random operations on four bags of one pool, each compared with plain counts: how often each number
 // is in each bag. After a union, a split, and now and then all bags and the free chain are walked
 // and compared in full.
-ghost use Rattle.std.specs.Prelude.{◌≡◌, ◌<◌, ◌≤◌, length, ◌≢◌};
+ghost use Rattle.std.specs.Prelude.{◌≡◌, ◌<◌, ◌≤◌, IfSome, length, ◌≢◌};
 ghost use Rattle.bag.specs.Promises.{Pooled};
 ghost use Rattle.bagkit.specs.Family.{Room};
 
@@ -21,13 +21,14 @@ const ROW_PLACES: usize = 50;
 
 const ROUND_COUNT: u16 = 6000;
 
-const KIND_INSERT: u16 = 0;
-
-const KIND_TAKE: u16 = 1;
-
-const KIND_UNITE: u16 = 2;
-
-const KIND_SPLIT: u16 = 3;
+// What an operation does.
+#[derive(Clone, Copy)]
+pub enum Kind {
+    Insert,
+    Take,
+    Unite,
+    Split,
+}
 
 // The bags after an operation, and whether it did what it must.
 #[derive(Clone, Copy)]
@@ -39,7 +40,7 @@ pub struct Outcome {
 // Which bags and which number an operation is for.
 #[derive(Clone, Copy)]
 pub struct Choice {
-    pub kind: u16,
+    pub kind: Kind,
     pub i: usize,
     pub j: usize,
     pub value: u16,
@@ -64,10 +65,12 @@ fn is_tested(bag: Bag, count: usize) -> bool {
 
 // Whether the tests of all bags do, and a node is free just where the counts leave one.
 fn are_tested(bags: [Bag; 4], left: &[u16], counts: &[u16]) -> bool {
-    let first = is_tested(bags[0], held(counts, 0)) & is_tested(bags[1], held(counts, 1));
-    let second = is_tested(bags[2], held(counts, 2)) & is_tested(bags[3], held(counts, 3));
+    let tested = bags
+        .iter()
+        .enumerate()
+        .all(|(i, bag)| is_tested(*bag, held(counts, i)));
     let all = total(counts, 0, 4 * ROW_PLACES);
-    first & second & ((at(left, 0) == 0) == (all == POOL_NODES))
+    tested & ((at(left, 0) == 0) == (all == POOL_NODES))
 }
 
 // Whether a walk over all bags finds the numbers that are counted, and bags and free chain together
@@ -82,18 +85,15 @@ fn are_counted(
     let mut nodes = [0u16; 320];
     let mut met = [0u16; 301];
     let mut found = [0u16; 200];
-    let mut all = 0;
-    let mut i = 0;
-    while i < 4 {
-        let bag = bags[i];
-        let count = add_bag(bag, base(i), left, right, values, &mut nodes, &mut found);
+    let mut all: usize = 0;
+    for (i, bag) in bags.iter().enumerate() {
+        let count = add_bag(*bag, base(i), left, right, values, &mut nodes, &mut found);
         add_nodes(&mut met, &nodes, count);
-        all = std::num::wrapping_add_usize(all, count);
-        i += 1;
+        all = all.wrapping_add(count);
     }
     let free = free_nodes(left, &mut nodes);
     add_nodes(&mut met, &nodes, free);
-    let whole = std::num::wrapping_add_usize(all, free) == POOL_NODES;
+    let whole = all.wrapping_add(free) == POOL_NODES;
     whole & are_ones(&met, 1, POOL_NODES) & agree(&found, counts, 200)
 }
 
@@ -115,10 +115,7 @@ fn insert(
     if at(left, 0) == 0 {
         return Outcome { bags, right: true };
     }
-    raise(
-        counts,
-        std::num::wrapping_add_usize(base(i), value as usize),
-    );
+    raise(counts, base(i).wrapping_add(usize::from(value)));
     let after = family::put(bags, i, value, left, right, values);
     Outcome {
         bags: after,
@@ -140,16 +137,15 @@ fn take(
     requires i_bound { i < 4 }
     ensures { Pooled left.new right.now result.bags }
 {
-    let old = bags[i];
-    if bag::is_empty(old) {
-        return Outcome { bags, right: true };
-    }
     let drawn = family::draw(bags, i, left, right, values);
     let after = drawn.bags;
-    let value = drawn.value as usize;
+    let is_held = match drawn.value {
+        None => true,
+        Some(value) => lower(counts, base(i).wrapping_add(usize::from(value))),
+    };
     Outcome {
         bags: after,
-        right: lower(counts, std::num::wrapping_add_usize(base(i), value)),
+        right: is_held,
     }
 }
 
@@ -176,24 +172,18 @@ fn unite(
     }
 }
 
-// A bag other than i that is empty by the counts, or i where there is none.
-fn empty_bag(counts: &[u16], i: usize) -> usize
+// A bag other than i that is empty by the counts.
+fn empty_bag(counts: &[u16], i: usize) -> Option<usize>
     requires { i < 4 }
-    ensures { result < 4 }
+    ensures { IfSome result (λ j. (j < 4) × (i ≢ j)) }
 {
-    let a = (i + 1) % 4;
-    let b = (i + 2) % 4;
-    let c = (i + 3) % 4;
-    if held(counts, a) == 0 {
-        return a;
+    for k in 1..4 {
+        let j = (i + k) % 4;
+        if held(counts, j) == 0 {
+            return Some(j);
+        }
     }
-    if held(counts, b) == 0 {
-        return b;
-    }
-    if held(counts, c) == 0 {
-        return c;
-    }
-    i
+    None
 }
 
 // Whether the bags i and j have what bag i had by the counts, and share it evenly. The counts are
@@ -233,10 +223,9 @@ fn split(
     requires i_bound { i < 4 }
     ensures { Pooled left.new right.new result.bags }
 {
-    let j = empty_bag(counts, i);
-    if i == j {
+    let Some(j) = empty_bag(counts, i) else {
         return Outcome { bags, right: true };
-    }
+    };
     let old = bags[i];
     if !bag::at_least_two(old) {
         return Outcome { bags, right: true };
@@ -251,18 +240,18 @@ fn split(
 }
 
 // Mostly inserts for a thousand rounds, then mostly takes, and so on.
-fn drawn_kind(round: u16, seed: u64) -> u16 {
+fn drawn_kind(round: u16, seed: u64) -> Kind {
     let drawn = below(seed, 16);
     if drawn < 2 {
-        return KIND_UNITE;
+        return Kind::Unite;
     }
     if drawn < 4 {
-        return KIND_SPLIT;
+        return Kind::Split;
     }
     if (drawn < 13) == (round / 1000 % 2 == 0) {
-        KIND_INSERT
+        Kind::Insert
     } else {
-        KIND_TAKE
+        Kind::Take
     }
 }
 
@@ -272,8 +261,8 @@ fn drawn_choice(round: u16, seed: u64) -> Choice
     ensures j_bound { result.j < 4 }
     ensures differ { result.i ≢ result.j }
 {
-    let i = (below(seed, 4) % 4) as usize;
-    let further = (below(next(seed), 3) % 3) as usize;
+    let i = usize::from(below(seed, 4) % 4);
+    let further = usize::from(below(next(seed), 3) % 3);
     Choice {
         kind: drawn_kind(round, leap(seed)),
         i,
@@ -298,23 +287,19 @@ fn operate(
     requires differ { choice.i ≢ choice.j }
     ensures { Pooled left.new right.new result.bags }
 {
-    if choice.kind == KIND_INSERT {
-        return insert(bags, choice.i, choice.value, left, right, values, counts);
+    match choice.kind {
+        Kind::Insert => insert(bags, choice.i, choice.value, left, right, values, counts),
+        Kind::Take => take(bags, choice.i, left, right, values, counts),
+        Kind::Unite => unite(bags, choice.i, choice.j, left, right, counts),
+        Kind::Split => split(bags, choice.i, left, right, values, counts),
     }
-    if choice.kind == KIND_TAKE {
-        return take(bags, choice.i, left, right, values, counts);
-    }
-    if choice.kind == KIND_UNITE {
-        return unite(bags, choice.i, choice.j, left, right, counts);
-    }
-    split(bags, choice.i, left, right, values, counts)
 }
 
 // Whether bags and counts agree: by the tests, and in full after a union or a split and every 16th
 // round.
 fn is_right(
     bags: [Bag; 4],
-    kind: u16,
+    kind: Kind,
     round: u16,
     left: &[u16],
     right: &[u16],
@@ -322,10 +307,8 @@ fn is_right(
     counts: &[u16],
 ) -> bool {
     let tested = are_tested(bags, left, counts);
-    if (kind == KIND_INSERT) | (kind == KIND_TAKE) {
-        if round % 16 != 0 {
-            return tested;
-        }
+    if matches!(kind, Kind::Insert | Kind::Take) && round % 16 != 0 {
+        return tested;
     }
     tested & are_counted(bags, left, right, values, counts)
 }
@@ -361,13 +344,11 @@ fn rounds(left: &mut [u16], right: &mut [u16], values: &mut [u16], counts: &mut 
     let mut bags = family::start(left, right, POOL_NODES);
     let mut tally = Tally::new();
     let mut seed: u64 = 21;
-    let mut round: u16 = 0;
-    while round < ROUND_COUNT {
+    for round in 0..ROUND_COUNT {
         seed = leap(seed);
         let done = play(bags, round, seed, left, right, values, counts);
         bags = done.bags;
         tally = tally.with(done.right);
-        round += 1;
     }
     tally
 }
@@ -377,5 +358,5 @@ pub fn run(rt: &impl Print) -> io::Result<()> {
     let mut right = [0u16; 301];
     let mut values = [0u16; 301];
     let mut counts = [0u16; 200];
-    rounds(&mut left, &mut right, &mut values, &mut counts).print(rt, b"random operations")
+    rounds(&mut left, &mut right, &mut values, &mut counts).print(rt, "random operations")
 }

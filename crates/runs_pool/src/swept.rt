@@ -34,14 +34,8 @@ fn sweeps(places: usize) -> bool {
 
 // Whether each of the first places leads to the next node, and the last to none.
 fn is_chain(left: &[u16], nodes: usize) -> bool {
-    let mut i = 0;
-    while i < nodes {
-        if at_place(left, i) as usize != std::num::wrapping_add_usize(i, 1) {
-            return false;
-        }
-        i += 1;
-    }
-    at_place(left, nodes) == 0
+    let leads_on = (0..nodes).all(|i| usize::from(at_place(left, i)) == i.wrapping_add(1));
+    leads_on && at_place(left, nodes) == 0
 }
 
 fn pools(nodes: usize) -> bool {
@@ -57,25 +51,13 @@ fn pools(nodes: usize) -> bool {
 }
 
 fn all_sweeps() -> Tally {
-    let mut tally = Tally::new();
-    let mut places = 0;
-    while places <= 40 {
-        tally = tally.with(sweeps(places));
-        places += 1;
-    }
-    tally
+    (0..=40).fold(Tally::new(), |tally, places| tally.with(sweeps(places)))
 }
 
 fn all_pools() -> Tally {
-    let mut tally = Tally::new();
-    let mut nodes = 0;
-    while nodes < 40 {
-        tally = tally.with(pools(nodes));
-        nodes += 1;
-    }
-    tally
+    (0..40).fold(Tally::new(), |tally, nodes| tally.with(pools(nodes)))
 }
 
 pub fn run(rt: &impl Print) -> io::Result<()> {
-    all_sweeps().and(all_pools()).print(rt, b"swept lists")
+    all_sweeps().and(all_pools()).print(rt, "swept lists")
 }

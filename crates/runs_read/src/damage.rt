@@ -19,32 +19,29 @@ const ROUND_COUNT: u16 = 4000;
 const BYTE_ROUNDS: u16 = 592;
 
 const CHAIN_ROUNDS: u16 = 2500;
-// A number that no call answers.
-const WRONG: usize = 99;
 
 // The place, in words, of a head or of a next index.
 fn chain_place(seed: u64) -> usize {
     let chosen = below(seed, 42);
     if chosen < VERTICES {
-        2 + chosen as usize
+        2 + usize::from(chosen)
     } else {
         record_place(VERTICES, chosen - 11) + 1
     }
 }
 
-// Where it is wanted, stores an index that is mostly one of a record.
-fn damage_chain(file: &mut [u8], is_wanted: bool, seed: u64) {
-    if is_wanted {
-        files::put_word(file, chain_place(seed), below(next(seed), 32));
-    }
+// Stores an index that is mostly one of a record.
+fn damage_chain(file: &mut [u8], seed: u64) {
+    files::put_word(file, chain_place(seed), below(next(seed), 32));
 }
 
 // Damages one to three indices.
 fn damage_chains(file: &mut [u8], round: u16, seed: u64) {
-    let second = leap(seed);
-    damage_chain(file, true, seed);
-    damage_chain(file, round % 3 > 0, second);
-    damage_chain(file, round % 3 > 1, leap(second));
+    let mut state = seed;
+    for _ in 0..=round % 3 {
+        damage_chain(file, state);
+        state = leap(state);
+    }
 }
 
 // Swaps two indices: every record is still named once, and may lie on no chain.
@@ -60,7 +57,7 @@ fn swap_indices(file: &mut [u8], seed: u64) {
 // Damages one byte; or some indices; or swaps two.
 fn damage(file: &mut [u8], round: u16, seed: u64) {
     if round < BYTE_ROUNDS {
-        files::put(file, (round % LENGTH) as usize, (seed / 8 % 256) as u8);
+        files::put(file, usize::from(round % LENGTH), (seed / 8 % 256) as u8);
     } else if round < CHAIN_ROUNDS {
         damage_chains(file, round, seed);
     } else {
@@ -70,26 +67,20 @@ fn damage(file: &mut [u8], round: u16, seed: u64) {
 
 // The length of a list: one short, the need, or three more.
 fn list_length(need: usize, seed: u64) -> usize {
-    let drawn = below(seed, 32);
-    if drawn == 0 {
-        return std::num::wrapping_sub_usize(need, 1);
+    match below(seed, 32) {
+        0 => need.wrapping_sub(1),
+        1..=15 => need,
+        _ => need.wrapping_add(3),
     }
-    if drawn < 16 {
-        return need;
-    }
-    std::num::wrapping_add_usize(need, 3)
 }
 
 // The length of the file: one short, one long, or as its words ask.
 fn cut_length(length: usize, seed: u64) -> usize {
-    let drawn = below(seed, 64);
-    if drawn == 0 {
-        return std::num::wrapping_sub_usize(length, 1);
+    match below(seed, 64) {
+        0 => length.wrapping_sub(1),
+        1 => length.wrapping_add(1),
+        _ => length,
     }
-    if drawn == 1 {
-        return std::num::wrapping_add_usize(length, 1);
-    }
-    length
 }
 
 fn lent(seed: u64) -> Lengths {
@@ -149,8 +140,8 @@ fn make(file: &mut [u8], round: u16, seed: u64) {
     damage(file, round, leap(seed));
 }
 
-// The number that the round must answer, or `WRONG` where reading does otherwise.
-fn outcome(round: u16, seed: u64) -> usize {
+// The number that the round must answer; none where reading does otherwise.
+fn outcome(round: u16, seed: u64) -> Option<usize> {
     let mut file = [0u8; 160];
     make(&mut file, round, seed);
     let mut rows = [0u16; 20];
@@ -159,9 +150,9 @@ fn outcome(round: u16, seed: u64) -> usize {
     let round_lengths = lent(next(seed));
     let number = predict(&file, round_lengths, &mut rows, &mut row_targets, &mut seen);
     if is_right(&file, round_lengths, number, &rows, &row_targets) {
-        number
+        Some(number)
     } else {
-        WRONG
+        None
     }
 }
 
@@ -169,41 +160,32 @@ fn outcome(round: u16, seed: u64) -> usize {
 fn rounds(met: &mut [u16]) -> Tally {
     let mut tally = Tally::new();
     let mut state: u64 = 4;
-    let mut round: u16 = 0;
-    while round < ROUND_COUNT {
+    for round in 0..ROUND_COUNT {
         state = leap(state);
         let number = outcome(round, state);
-        tally = tally.with(number != WRONG);
-        count(met, number);
-        round += 1;
+        tally = tally.with(number.is_some());
+        if let Some(number) = number {
+            count(met, number);
+        }
     }
     tally
 }
 
 // One more of a number.
 fn count(met: &mut [u16], number: usize) {
-    if number < met.len() {
-        met[number] = after(met[number]);
+    if let Some(times) = met.get_mut(number) {
+        *times = after(*times);
     }
 }
 
-// Writes ", N of K": K was met N times.
-fn print_met(rt: &impl Print, met: &[u16], number: u16) -> io::Result<()> {
-    let times = at(met, number);
-    print!(rt; ", {times} of {number}")
-}
-
 pub fn run(rt: &impl Print) -> io::Result<()> {
-    let mut met = [0u16; 100];
-    rounds(&mut met).print(rt, b"damaged files")?;
-    let taken = at(&met, 0);
+    let mut met = [0u16; 21];
+    rounds(&mut met).print(rt, "damaged files")?;
+    let taken = met[0];
     print!(rt; "numbers met: {taken} of 0")?;
-    print_met(rt, &met, 1)?;
-    print_met(rt, &met, 2)?;
-    print_met(rt, &met, 3)?;
-    print_met(rt, &met, 4)?;
-    print_met(rt, &met, 5)?;
-    print_met(rt, &met, 6)?;
-    print_met(rt, &met, 20)?;
+    for number in [1, 2, 3, 4, 5, 6, 20] {
+        let times = at(&met, number);
+        print!(rt; ", {times} of {number}")?;
+    }
     println!(rt)
 }

@@ -3,33 +3,27 @@
 use testkit::files::word;
 use testkit::reading::Lengths;
 use testkit::sample::{after, file_length, record_place};
-use testkit::words::{at, put};
+use testkit::words::put;
 
-// 1, 2 or 1 of the first `length` bytes, or 0.
-fn header_number(file: &[u8], length: usize) -> usize {
+// 1 or 2 for the first `length` bytes.
+fn check_header(file: &[u8], length: usize) -> Result<(), usize> {
     let n = word(file, 0);
     let m = word(file, 1);
     if length < 4 {
-        return 1;
+        return Err(1);
     }
-    if n == 0 {
-        return 2;
-    }
-    if 4096 < n {
-        return 2;
-    }
-    if 32768 < m {
-        return 2;
+    if n == 0 || 4096 < n || 32768 < m {
+        return Err(2);
     }
     if length != file_length(n, m) {
-        return 1;
+        return Err(1);
     }
-    0
+    Ok(())
 }
 
 // The index that starts the chain of a vertex.
 fn head(file: &[u8], vertex: u16) -> u16 {
-    word(file, 2 + vertex as usize)
+    word(file, 2 + usize::from(vertex))
 }
 
 fn target(file: &[u8], vertices: u16, record: u16) -> u16 {
@@ -40,180 +34,129 @@ fn next(file: &[u8], vertices: u16, record: u16) -> u16 {
     word(file, record_place(vertices, record) + 1)
 }
 
-// Whether a head passes m.
-fn has_bad_head(file: &[u8], vertices: u16, edges: u16) -> bool {
-    let mut vertex: u16 = 0;
-    while vertex < vertices {
-        if edges < head(file, vertex) {
-            return true;
-        }
-        vertex += 1;
+// 4 where a head or a next index passes m, then 3 where a target is no vertex.
+fn check_words(file: &[u8], vertices: u16, edges: u16) -> Result<(), usize> {
+    if (0..vertices).any(|vertex| edges < head(file, vertex)) {
+        return Err(4);
     }
-    false
+    if (1..=edges).any(|record| edges < next(file, vertices, record)) {
+        return Err(4);
+    }
+    if (1..=edges).any(|record| vertices <= target(file, vertices, record)) {
+        return Err(3);
+    }
+    Ok(())
 }
 
-// Whether a next index passes m.
-fn has_bad_next(file: &[u8], vertices: u16, edges: u16) -> bool {
-    let mut record: u16 = edges;
-    while record > 0 {
-        if edges < next(file, vertices, record) {
-            return true;
-        }
-        record -= 1;
+// 20 where a list is shorter than its need.
+fn check_lists(lengths: Lengths, vertices: u16, edges: u16) -> Result<(), usize> {
+    let n = usize::from(vertices);
+    let m = usize::from(edges);
+    if lengths.offsets <= n || lengths.targets < m || lengths.marks < m {
+        return Err(20);
     }
-    false
+    Ok(())
 }
 
-// Whether a target is no vertex.
-fn has_bad_target(file: &[u8], vertices: u16, edges: u16) -> bool {
-    let mut record: u16 = edges;
-    while record > 0 {
-        if vertices <= target(file, vertices, record) {
-            return true;
-        }
-        record -= 1;
-    }
-    false
-}
-
-fn scan_number(file: &[u8], vertices: u16, edges: u16) -> usize {
-    if has_bad_head(file, vertices, edges) {
-        return 4;
-    }
-    if has_bad_next(file, vertices, edges) {
-        return 4;
-    }
-    if has_bad_target(file, vertices, edges) {
-        return 3;
-    }
-    0
-}
-
-fn lists_number(lengths: Lengths, vertices: u16, edges: u16) -> usize {
-    if lengths.offsets <= vertices as usize {
-        return 20;
-    }
-    if lengths.targets < edges as usize {
-        return 20;
-    }
-    if lengths.marks < edges as usize {
-        return 20;
-    }
-    0
-}
-
-// Where a walk of all chains is: the vertices whose chains were begun, the record to meet next or
-// 0, and how many records were met.
-#[derive(Clone, Copy)]
-struct Walk {
+// A walk of all chains of a file, and the lists that it fills: the rows' ends, the targets and the
+// records in the order in which they are met. It is at the vertices whose chains were begun, the
+// record to meet next or 0, and how many records were met.
+#[derive(Drop)]
+struct Walk<'a> {
+    file: &'a [u8],
+    vertices: u16,
+    rows: &'a mut [u16],
+    row_targets: &'a mut [u16],
+    seen: &'a mut [u16],
     vertex: u16,
     record: u16,
     count: u16,
 }
 
-// The walk stands at the end of a chain: it notes the row's end and begins the next chain.
-fn begin(walk: Walk, file: &[u8], vertices: u16, rows: &mut [u16]) -> Walk {
-    put(rows, walk.vertex, walk.count);
-    if vertices <= walk.vertex {
-        return walk;
+impl Walk<'_> {
+    // The walk stands at the end of a chain: it notes the row's end and begins the next chain.
+    fn begin(&mut self) {
+        put(self.rows, self.vertex, self.count);
+        if self.vertex < self.vertices {
+            self.record = head(self.file, self.vertex);
+            self.vertex = after(self.vertex);
+        }
     }
-    Walk {
-        vertex: after(walk.vertex),
-        record: head(file, walk.vertex),
-        count: walk.count,
+
+    // The walk meets a record.
+    fn meet(&mut self) {
+        put(self.seen, self.count, self.record);
+        let met = target(self.file, self.vertices, self.record);
+        put(self.row_targets, self.count, met);
+        self.record = next(self.file, self.vertices, self.record);
+        self.count = after(self.count);
+    }
+
+    fn step(&mut self) {
+        if self.record == 0 {
+            self.begin();
+        } else {
+            self.meet();
+        }
+    }
+
+    // Whether a record was met twice.
+    fn has_repeat(&self) -> bool {
+        let met = self.seen.iter().take(usize::from(self.count));
+        met.enumerate().any(|(i, record)| self.seen.iter().take(i).any(|earlier| earlier == record))
+    }
+
+    // 5 or 6, by what the whole walk met. A walk that has not come to the end of its last chain
+    // after all its steps met a record twice.
+    fn check(&self, edges: u16) -> Result<(), usize> {
+        if self.record != 0 || self.has_repeat() {
+            return Err(5);
+        }
+        if self.count < edges {
+            return Err(6);
+        }
+        Ok(())
     }
 }
 
-// The walk meets a record.
-fn meet(walk: Walk, file: &[u8], vertices: u16, row_targets: &mut [u16], seen: &mut [u16]) -> Walk {
-    put(seen, walk.count, walk.record);
-    put(row_targets, walk.count, target(file, vertices, walk.record));
-    Walk {
-        vertex: walk.vertex,
-        record: next(file, vertices, walk.record),
-        count: after(walk.count),
+// Walks all chains. One step for each vertex, each record and the end is enough: more records than
+// there are show that one was met twice.
+fn check_chains(mut walk: Walk, edges: u16) -> Result<(), usize> {
+    let steps = usize::from(walk.vertices) + usize::from(edges) + 1;
+    for _ in 0..steps {
+        walk.step();
     }
+    walk.check(edges)
 }
 
-fn step(
-    walk: Walk,
+// The refusal of the first `lengths.file` bytes and lists of these lengths. Where there is none, the
+// rows are those of the file. `seen` is working room.
+fn check(
     file: &[u8],
-    vertices: u16,
+    lengths: Lengths,
     rows: &mut [u16],
     row_targets: &mut [u16],
     seen: &mut [u16],
-) -> Walk {
-    if walk.record == 0 {
-        begin(walk, file, vertices, rows)
-    } else {
-        meet(walk, file, vertices, row_targets, seen)
-    }
-}
-
-// Walks all chains and answers how many records were met. One step for each vertex, each record and
-// the end is enough: more records than there are show that one was met twice.
-fn walk_all(
-    file: &[u8],
-    vertices: u16,
-    edges: u16,
-    rows: &mut [u16],
-    row_targets: &mut [u16],
-    seen: &mut [u16],
-) -> Walk {
-    let mut walk = Walk {
+) -> Result<(), usize> {
+    let vertices = word(file, 0);
+    let edges = word(file, 1);
+    check_header(file, lengths.file)?;
+    check_words(file, vertices, edges)?;
+    check_lists(lengths, vertices, edges)?;
+    let walk = Walk {
+        file,
+        vertices,
+        rows,
+        row_targets,
+        seen,
         vertex: 0,
         record: 0,
         count: 0,
     };
-    let mut steps = vertices as usize + edges as usize + 1;
-    while steps > 0 {
-        walk = step(walk, file, vertices, rows, row_targets, seen);
-        steps -= 1;
-    }
-    walk
+    check_chains(walk, edges)
 }
 
-// Whether the record is among the first `count`.
-fn occurs(seen: &[u16], count: u16, record: u16) -> bool {
-    let mut i: u16 = 0;
-    while i < count {
-        if at(seen, i) == record {
-            return true;
-        }
-        i += 1;
-    }
-    false
-}
-
-// Whether a record is twice among the first `count`.
-fn has_repeat(seen: &[u16], count: u16) -> bool {
-    let mut i: u16 = 0;
-    while i < count {
-        if occurs(seen, i, at(seen, i)) {
-            return true;
-        }
-        i += 1;
-    }
-    false
-}
-
-// 5, 6 or 0, by what a whole walk met. A walk that has not come to the end of its last chain after
-// all its steps met a record twice.
-fn chain_number(walk: Walk, seen: &[u16], edges: u16) -> usize {
-    if walk.record != 0 {
-        return 5;
-    }
-    if has_repeat(seen, walk.count) {
-        return 5;
-    }
-    if walk.count < edges {
-        return 6;
-    }
-    0
-}
-
-// The number for the first `lengths.file` bytes and lists of these lengths. With 0 the rows are
-// those of the file. `seen` is working room.
+// The number that reading must answer: 0, or the refusal's.
 pub fn predict(
     file: &[u8],
     lengths: Lengths,
@@ -221,20 +164,8 @@ pub fn predict(
     row_targets: &mut [u16],
     seen: &mut [u16],
 ) -> usize {
-    let n = word(file, 0);
-    let m = word(file, 1);
-    let header = header_number(file, lengths.file);
-    if header != 0 {
-        return header;
+    match check(file, lengths, rows, row_targets, seen) {
+        Ok(()) => 0,
+        Err(number) => number,
     }
-    let scan = scan_number(file, n, m);
-    if scan != 0 {
-        return scan;
-    }
-    let lists = lists_number(lengths, n, m);
-    if lists != 0 {
-        return lists;
-    }
-    let walk = walk_all(file, n, m, rows, row_targets, seen);
-    chain_number(walk, seen, m)
 }

@@ -2,81 +2,68 @@
 // alone one short, the file too, for a graph of the largest size.
 use crate::drawn;
 use std::io;
-use testkit::group::Tally;
+use testkit::group::{Tally, all};
 use testkit::reading::{Lengths, needs};
 use testkit::sample::file_length;
-use testkit::words::extra;
+use testkit::words::{choices, extra, short};
 
 const VERTICES: u16 = 37;
 
 const EDGES: u16 = 101;
 
-// The lists' lengths: the combination's digits to the base 3 choose them.
-fn lent(combination: u16) -> Lengths {
+// The lists' lengths.
+fn lent([offsets, targets, marks]: [u16; 3]) -> Lengths {
     Lengths {
         file: file_length(VERTICES, EDGES),
-        offsets: 37 + extra(combination % 3),
-        targets: 100 + extra(combination / 3 % 3),
-        marks: 100 + extra(combination / 9 % 3),
+        offsets: 37 + extra(offsets),
+        targets: 100 + extra(targets),
+        marks: 100 + extra(marks),
     }
 }
 
 // 20 where one of the lists is one short.
-fn expected(combination: u16) -> usize {
-    if combination % 3 == 0 {
-        return 20;
-    }
-    if combination / 3 % 3 == 0 {
-        return 20;
-    }
-    if combination / 9 % 3 == 0 {
-        return 20;
-    }
-    0
-}
-
-fn is_right(combination: u16) -> bool {
-    drawn::is_right(VERTICES, EDGES, lent(combination), expected(combination))
+fn expected(choices: [u16; 3]) -> usize {
+    if choices.contains(&0) { 20 } else { 0 }
 }
 
 fn combinations() -> Tally {
-    let mut tally = Tally::new();
-    let mut combination: u16 = 0;
-    while combination < 27 {
-        tally = tally.with(is_right(combination));
-        combination += 1;
-    }
-    tally
+    all(0..27, |combination| {
+        let chosen = choices(combination);
+        drawn::is_right(VERTICES, EDGES, lent(chosen), expected(chosen))
+    })
 }
 
-// The need, or one less.
-fn less(need: usize, is_short: bool) -> usize {
-    if is_short {
-        std::num::wrapping_sub_usize(need, 1)
-    } else {
-        need
-    }
-}
-
-// The largest size, with one list short: 0 for the file, 1 for the offsets, 2 for the targets, 3 for
-// the marks.
-fn largest_is_right(short: u16, number: usize) -> bool {
-    let need = needs(4096, 32768);
-    let lent = Lengths {
-        file: less(need.file, short == 0),
-        offsets: less(need.offsets, short == 1),
-        targets: less(need.targets, short == 2),
-        marks: less(need.marks, short == 3),
-    };
+fn largest_is_right(lent: Lengths, number: usize) -> bool {
     drawn::is_right(4096, 32768, lent, number)
 }
 
+// The largest size, with one list short.
+fn largest() -> Tally {
+    let need = needs(4096, 32768);
+    let file = Lengths {
+        file: short(need.file),
+        ..need
+    };
+    let offsets = Lengths {
+        offsets: short(need.offsets),
+        ..need
+    };
+    let targets = Lengths {
+        targets: short(need.targets),
+        ..need
+    };
+    let marks = Lengths {
+        marks: short(need.marks),
+        ..need
+    };
+    Tally::new()
+        .with(largest_is_right(file, 1))
+        .with(largest_is_right(offsets, 20))
+        .with(largest_is_right(targets, 20))
+        .with(largest_is_right(marks, 20))
+}
+
 pub fn run(rt: &impl Print) -> io::Result<()> {
-    combinations().print(rt, b"lengths of the lists")?;
-    let largest = Tally::new()
-        .with(largest_is_right(0, 1))
-        .with(largest_is_right(1, 20))
-        .with(largest_is_right(2, 20))
-        .with(largest_is_right(3, 20));
-    largest.print(rt, b"largest file, one list short")
+    combinations().print(rt, "lengths of the lists")?;
+    largest().print(rt, "largest file, one list short")
 }

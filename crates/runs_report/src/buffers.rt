@@ -4,12 +4,10 @@ use crate::drawn;
 use crate::replies::{BLANK, read, respond};
 use report::{INPUT_PLACES, OUTPUT_PLACES};
 use searchkit::plans::Plan;
-use testkit::files::{agree, copy, stamp};
-
-pub const ROWS: u16 = 10;
+use testkit::files::{copy, stamp};
 
 // How many bytes there are, how many are said to be read, the number.
-const CASES: [[u16; 3]; 10] = [
+pub const CASES: [[u16; 3]; 10] = [
     // the longest input, and one that is cut
     [17418, 17418, 0],
     [17417, 17417, 1],
@@ -24,17 +22,6 @@ const CASES: [[u16; 3]; 10] = [
     [17420, 17420, 1],
     [60000, 65535, 1],
 ];
-
-// A place of the table; 0 outside it.
-fn cell(row: u16, column: usize) -> u16 {
-    let i = row as usize;
-    if i < 10 {
-        if column < 3 {
-            return CASES[i][column];
-        }
-    }
-    0
-}
 
 // The largest sizes; the search finishes.
 fn longest() -> Plan {
@@ -55,10 +42,9 @@ fn is_reply(output: &[u8], count: usize, input: &[u8], length: usize, number: u1
     let mut parents = [0u16; 512];
     let mut other = [BLANK; OUTPUT_PLACES];
     let wanted = respond(input, length, &mut other, OUTPUT_PLACES);
-    let done = read(output, count, 512, &mut distances, &mut parents);
-    let seen = done.seen;
-    let text = done.right & (seen.number == number as usize);
-    text & (count == wanted) & agree(output, &other, OUTPUT_PLACES)
+    let text = read(output, count, 512, &mut distances, &mut parents).is_some_and(|seen| seen.number
+        == usize::from(number));
+    text & (count == wanted) & (output == &other[..])
 }
 
 // Whether the first bytes of an input, of which so many are said to be read, are answered with the
@@ -72,15 +58,11 @@ fn is_answered(input: &[u8], length: usize, said: usize, number: u16) -> bool {
 }
 
 // Other bytes stand behind the longest input.
-pub fn is_right(row: u16) -> bool {
+pub fn is_right(row: &[u16; 3]) -> bool {
+    let [length, said, number] = *row;
     let mut input = [0u8; 60000];
     stamp(&mut input, 3);
-    let length = drawn::put(longest(), &mut input);
-    let right = is_answered(
-        &input,
-        cell(row, 0) as usize,
-        cell(row, 1) as usize,
-        cell(row, 2),
-    );
-    right & (length == report::LONGEST_INPUT)
+    let whole = drawn::put(longest(), &mut input);
+    let right = is_answered(&input, usize::from(length), usize::from(said), number);
+    right & (whole == report::LONGEST_INPUT)
 }

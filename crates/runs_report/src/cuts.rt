@@ -3,10 +3,9 @@
 use crate::inputs::{put_file_word, put_square};
 use crate::replies::answers;
 use testkit::files::{put_word, stamp};
+use testkit::group::{Tally, all};
 
-// Five inputs, each at lengths 0 to 99.
-pub const CASES: u16 = 500;
-
+// Each input is cut at lengths 0 to 99.
 const LENGTHS: u16 = 100;
 
 const SQUARE_EVENTS: u16 = 25;
@@ -20,62 +19,70 @@ const WHOLE: u16 = 59;
 
 // The inputs: case A, a sheet length that is too large, no vertex, too many vertices for the
 // program, too many edges for any.
-const LONG_SCHEDULE: u16 = 1;
+#[derive(Clone, Copy, PartialEq)]
+enum Input {
+    Square,
+    LongSchedule,
+    NoVertex,
+    ManyVertices,
+    ManyEdges,
+}
 
-const NO_VERTEX: u16 = 2;
-
-const MANY_VERTICES: u16 = 3;
-
-const MANY_EDGES: u16 = 4;
+const INPUTS: [Input; 5] = [
+    Input::Square,
+    Input::LongSchedule,
+    Input::NoVertex,
+    Input::ManyVertices,
+    Input::ManyEdges,
+];
 
 // The number of the program's order for the first bytes of an input.
-fn expected(kind: u16, length: u16) -> u16 {
-    if length < HEAD {
-        return 1;
+fn expected(kind: Input, length: u16) -> u16 {
+    match kind {
+        _ if length < HEAD => 1,
+        Input::LongSchedule => 20,
+        _ if length < SIZES_END => 1,
+        Input::NoVertex | Input::ManyEdges => 2,
+        Input::ManyVertices => 20,
+        Input::Square => u16::from(length != WHOLE),
     }
-    if kind == LONG_SCHEDULE {
-        return 20;
-    }
-    if length < SIZES_END {
-        return 1;
-    }
-    if (kind == NO_VERTEX) | (kind == MANY_EDGES) {
-        return 2;
-    }
-    if kind == MANY_VERTICES {
-        return 20;
-    }
-    if length == WHOLE { 0 } else { 1 }
 }
 
 // n of an input.
-fn vertices(kind: u16) -> u16 {
-    if kind == NO_VERTEX {
-        return 0;
+fn vertices(kind: Input) -> u16 {
+    match kind {
+        Input::NoVertex => 0,
+        Input::ManyVertices => 513,
+        _ => 4,
     }
-    if kind == MANY_VERTICES { 513 } else { 4 }
 }
 
 // Stores the words that an input is refused for.
-fn spoil(input: &mut [u8], kind: u16) {
-    let events = if kind == LONG_SCHEDULE {
+fn spoil(input: &mut [u8], kind: Input) {
+    let events = if kind == Input::LongSchedule {
         8193
     } else {
         SQUARE_EVENTS
     };
-    let edges = if kind == MANY_EDGES { 32769 } else { 4 };
+    let edges = if kind == Input::ManyEdges { 32769 } else { 4 };
     put_word(input, 2, events);
     put_file_word(input, SQUARE_EVENTS, 0, vertices(kind));
     put_file_word(input, SQUARE_EVENTS, 1, edges);
 }
 
 // Other bytes stand behind case A's input.
-pub fn is_right(case: u16) -> bool {
+fn is_right(kind: Input, length: u16) -> bool {
     let mut input = [0u8; 100];
-    let kind = case / LENGTHS;
-    let length = case % LENGTHS;
     stamp(&mut input, 3);
     put_square(&mut input, SQUARE_EVENTS);
     spoil(&mut input, kind);
-    answers(&input, length as usize, 4, expected(kind, length))
+    answers(&input, usize::from(length), 4, expected(kind, length))
+}
+
+pub fn run() -> Tally {
+    let mut tally = Tally::new();
+    for kind in INPUTS {
+        tally = tally.and(all(0..LENGTHS, |length| is_right(kind, length)));
+    }
+    tally
 }

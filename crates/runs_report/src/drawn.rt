@@ -2,7 +2,7 @@
 use crate::inputs::{Parts, compose};
 use crate::replies::ask;
 use searchkit::plans::{Plan, judge};
-use searchkit::requests::{Outcome, is_played};
+use searchkit::requests::{Seen, is_played};
 use searchkit::{events, random_plans};
 use testkit::random::leap;
 use testkit::sample::{draw_file, file_length};
@@ -21,126 +21,64 @@ fn parts_of(plan: Plan) -> Parts {
 }
 
 // Asks, and judges a search that was played.
-fn judged(input: &[u8], length: usize, plan: Plan, rows: &[u16], row_targets: &[u16]) -> Outcome {
+fn judged(
+    input: &[u8],
+    length: usize,
+    plan: Plan,
+    rows: &[u16],
+    row_targets: &[u16],
+) -> Option<Seen> {
     let mut distances = [0u16; 512];
     let mut parents = [0u16; 512];
-    let done = ask(input, length, plan.vertices, &mut distances, &mut parents);
-    let seen = done.seen;
-    if !is_played(seen.number) {
-        return done;
+    let seen = ask(input, length, plan.vertices, &mut distances, &mut parents)?;
+    if is_played(seen.number) {
+        let labels = judge(seen, plan, &distances, &parents, rows, row_targets);
+        return labels.right.then_some(seen);
     }
-    let labels = judge(seen, plan, &distances, &parents, rows, row_targets);
-    Outcome {
-        seen,
-        right: done.right & labels.right,
-    }
+    Some(seen)
 }
 
-// Draws a graph and a schedule into these lists and puts the input together. The answer is its length.
-fn put_in(
-    plan: Plan,
-    file: &mut [u8; 9220],
-    sources: &mut [u16; 2048],
-    row_targets: &mut [u16; 2048],
-    rows: &mut [u16; 513],
-    order: &mut [u16; 2048],
-    schedule: &mut [u8; 8192],
-    input: &mut [u8],
-) -> usize {
+// Draws a graph of at most 512 vertices and 2,048 edges, of which the rows are kept, and a schedule of
+// at most 8,192 events, and puts the input together. The answer is its length.
+fn draw(plan: Plan, rows: &mut [u16], row_targets: &mut [u16], input: &mut [u8]) -> usize {
+    let mut file = [0u8; 9220];
+    let mut sources = [0u16; 2048];
+    let mut order = [0u16; 2048];
+    let mut schedule = [0u8; 8192];
     draw_file(
-        file,
-        sources,
+        &mut file,
+        &mut sources,
         row_targets,
         rows,
-        order,
+        &mut order,
         plan.vertices,
         plan.edges,
         plan.seed,
     );
     let seed = leap(leap(leap(plan.seed)));
-    events::draw(
-        schedule,
-        plan.length as usize,
-        plan.mixture,
-        plan.workers,
-        seed,
-    );
-    compose(input, parts_of(plan), schedule, file)
+    let length = plan.length as usize;
+    events::draw(&mut schedule, length, plan.mixture, plan.workers, seed);
+    compose(input, parts_of(plan), &schedule, &file)
 }
 
-// Draws an input of a graph of at most 512 vertices and 2,048 edges and a schedule of at most 8,192
-// events. The answer is its length.
+// Draws such an input. The answer is its length.
 pub fn put(plan: Plan, input: &mut [u8]) -> usize {
-    let mut file = [0u8; 9220];
-    let mut sources = [0u16; 2048];
-    let mut row_targets = [0u16; 2048];
     let mut rows = [0u16; 513];
-    let mut order = [0u16; 2048];
-    let mut schedule = [0u8; 8192];
-    put_in(
-        plan,
-        &mut file,
-        &mut sources,
-        &mut row_targets,
-        &mut rows,
-        &mut order,
-        &mut schedule,
-        input,
-    )
+    let mut row_targets = [0u16; 2048];
+    draw(plan, &mut rows, &mut row_targets, input)
 }
 
-// Draws an input into these lists, asks for its first bytes up to `more` places behind its end, and
-// judges.
-fn run_in(
-    plan: Plan,
-    more: u16,
-    file: &mut [u8; 9220],
-    sources: &mut [u16; 2048],
-    row_targets: &mut [u16; 2048],
-    rows: &mut [u16; 513],
-    order: &mut [u16; 2048],
-    schedule: &mut [u8; 8192],
-    input: &mut [u8; 70000],
-) -> Outcome {
-    let length = put_in(
-        plan,
-        file,
-        sources,
-        row_targets,
-        rows,
-        order,
-        schedule,
-        input,
-    );
-    let given = std::num::wrapping_add_usize(length, more as usize);
-    judged(input, given, plan, rows, row_targets)
-}
-
-// Draws such an input, asks, and judges.
-pub fn run(plan: Plan, more: u16) -> Outcome {
-    let mut file = [0u8; 9220];
-    let mut sources = [0u16; 2048];
-    let mut row_targets = [0u16; 2048];
+// Draws such an input, asks for its first bytes up to `more` places behind its end, and judges.
+pub fn run(plan: Plan, more: u16) -> Option<Seen> {
     let mut rows = [0u16; 513];
-    let mut order = [0u16; 2048];
-    let mut schedule = [0u8; 8192];
+    let mut row_targets = [0u16; 2048];
     let mut input = [0u8; 70000];
-    run_in(
-        plan,
-        more,
-        &mut file,
-        &mut sources,
-        &mut row_targets,
-        &mut rows,
-        &mut order,
-        &mut schedule,
-        &mut input,
-    )
+    let length = draw(plan, &mut rows, &mut row_targets, &mut input);
+    let given = length.wrapping_add(usize::from(more));
+    judged(&input, given, plan, &rows, &row_targets)
 }
 
 // A round: every drawn input is accepted and played.
 pub fn is_right(round: u16) -> bool {
-    let done = run(random_plans::plan_of(round), 0);
-    let seen = done.seen;
-    done.right & is_played(seen.number)
+    run(random_plans::plan_of(round), 0).is_some_and(|seen| is_played(seen.number))
 }

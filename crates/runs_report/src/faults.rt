@@ -41,13 +41,11 @@ const NUMBERS: [u16; 14] = [1, 20, 1, 2, 20, 1, 4, 3, 7, 8, 9, 5, 6, 21];
 // The number of the first fault, or 0 where there is none.
 fn expected(combination: u16) -> u16 {
     let mut rest = combination;
-    let mut place = 0;
-    while place < 14 {
+    for number in NUMBERS {
         if rest % 2 == 1 {
-            return NUMBERS[place];
+            return number;
         }
-        rest = rest / 2;
-        place += 1;
+        rest /= 2;
     }
     0
 }

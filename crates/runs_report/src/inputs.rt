@@ -1,7 +1,7 @@
 // Inputs of the program: three words, the schedule, the file.
 use searchkit::base::{FILE, SCHEDULE};
 use searchkit::requests::Request;
-use testkit::files::{copy, put_word, put_word_at, put_words};
+use testkit::files::{copy, put_word_at, put_words};
 
 // The words of an input, and the length of its file in bytes.
 #[derive(Clone, Copy)]
@@ -14,19 +14,17 @@ pub struct Parts {
 
 // Where the file starts.
 pub fn file_start(events: u16) -> usize {
-    6 + events as usize
+    6 + usize::from(events)
 }
 
 // The three words.
 pub fn put_head(input: &mut [u8], source: u16, workers: u16, events: u16) {
-    put_word(input, 0, source);
-    put_word(input, 1, workers);
-    put_word(input, 2, events);
+    put_words(input, &[source, workers, events]);
 }
 
 // Stores a word of the file.
 pub fn put_file_word(input: &mut [u8], events: u16, place: u16, word: u16) {
-    let i = std::num::wrapping_add_usize(file_start(events), 2 * (place as usize));
+    let i = file_start(events).wrapping_add(2 * usize::from(place));
     put_word_at(input, i, word);
 }
 
@@ -34,9 +32,9 @@ pub fn put_file_word(input: &mut [u8], events: u16, place: u16, word: u16) {
 pub fn compose(input: &mut [u8], parts: Parts, schedule: &[u8], file: &[u8]) -> usize {
     let start = file_start(parts.events);
     put_head(input, parts.source, parts.workers, parts.events);
-    copy(schedule, parts.events as usize, input, 6);
-    copy(file, parts.file as usize, input, start);
-    std::num::wrapping_add_usize(start, parts.file as usize)
+    copy(schedule, usize::from(parts.events), input, 6);
+    copy(file, usize::from(parts.file), input, start);
+    start.wrapping_add(usize::from(parts.file))
 }
 
 // Case A's input with the first bytes of its schedule. The answer is its length.

@@ -4,15 +4,14 @@ use crate::inputs::{compose, parts_of, put_square};
 use crate::replies::{BLANK, respond};
 use searchkit::bench;
 use std::io;
-use testkit::files::{prefix, put};
+use testkit::files::{first, put};
 
 // Writes a name and the output.
 fn show(rt: &impl Print, name: &str, input: &[u8], length: usize) -> io::Result<()> {
     let mut output = [BLANK; 8280];
     let count = respond(input, length, &mut output, 8280);
-    let c = prefix(&output, count);
     println!(rt; "{name}")?;
-    rt.write_all(&output[..c])
+    rt.write_all(first(&output, count))
 }
 
 // Case A, with the first bytes of its schedule.
@@ -44,22 +43,32 @@ fn point(rt: &impl Print, name: &str, row: u16) -> io::Result<()> {
 }
 
 fn points(rt: &impl Print) -> io::Result<()> {
-    point(rt, "case C", 0)?;
-    point(rt, "case D", 1)?;
-    point(rt, "case E", 2)?;
-    point(rt, "case F", 3)?;
-    point(rt, "case G", 4)?;
-    point(rt, "case H", 5)?;
-    point(rt, "case I", 6)
+    for (name, row) in [
+        ("case C", 0),
+        ("case D", 1),
+        ("case E", 2),
+        ("case F", 3),
+        ("case G", 4),
+        ("case H", 5),
+        ("case I", 6),
+    ] {
+        point(rt, name, row)?;
+    }
+    Ok(())
 }
 
 // Case A's schedule after so many bytes: taken, looked, marked, named, stowed; then a layer later.
 fn starts(rt: &impl Print) -> io::Result<()> {
-    square(rt, "case A, 0 events", 0)?;
-    square(rt, "case A, 3 events", 3)?;
-    square(rt, "case A, 4 events", 4)?;
-    square(rt, "case A, 17 events", 17)?;
-    square(rt, "case A, 24 events", 24)
+    for (name, events) in [
+        ("case A, 0 events", 0),
+        ("case A, 3 events", 3),
+        ("case A, 4 events", 4),
+        ("case A, 17 events", 17),
+        ("case A, 24 events", 24),
+    ] {
+        square(rt, name, events)?;
+    }
+    Ok(())
 }
 
 pub fn run(rt: &impl Print) -> io::Result<()> {

@@ -6,14 +6,9 @@ use searchkit::base::{FILE, SCHEDULE};
 use searchkit::refusals;
 use testkit::files::{put_words, word};
 
-// The cases of the program's own order.
-pub const OWN: u16 = 59;
-
-const HEADS: u16 = 27;
-
 // Up to 4 bytes of file, with m 0: the input's length; the sheet length; n; the number. The source is
 // 0, one worker; all other bytes are 0.
-const HEAD_CASES: [[u16; 4]; 27] = [
+pub const HEAD_CASES: [[u16; 4]; 27] = [
     // fewer than three words, whatever they say
     [0, 0, 1, 1],
     [1, 0, 1, 1],
@@ -50,7 +45,7 @@ const HEAD_CASES: [[u16; 4]; 27] = [
 
 // With no schedule: the input's length; n; m; the number. All other bytes are 0, so that records make
 // 6.
-const SIZE_CASES: [[u16; 4]; 32] = [
+pub const SIZE_CASES: [[u16; 4]; 32] = [
     // n or m outside 01's sizes, before 20, in 4 bytes of file
     [10, 0, 0, 2],
     [10, 4097, 0, 2],
@@ -91,76 +86,31 @@ const SIZE_CASES: [[u16; 4]; 32] = [
     [9226, 512, 2048, 6],
 ];
 
-// A place of the first table; 0 outside it.
-fn head_cell(row: u16, column: usize) -> u16 {
-    let i = row as usize;
-    if i < 27 {
-        if column < 4 {
-            return HEAD_CASES[i][column];
-        }
-    }
-    0
-}
-
-// A place of the second table; 0 outside it.
-fn size_cell(row: u16, column: usize) -> u16 {
-    let i = row as usize;
-    if i < 32 {
-        if column < 4 {
-            return SIZE_CASES[i][column];
-        }
-    }
-    0
-}
-
 // Whether the first bytes of an input with these words and zeros are answered with the number.
 fn is_answered(length: u16, events: u16, n: u16, m: u16, number: u16) -> bool {
     let mut input = [0u8; 20000];
     put_head(&mut input, 0, 1, events);
     put_file_word(&mut input, events, 0, n);
     put_file_word(&mut input, events, 1, m);
-    answers(&input, length as usize, n, number)
+    answers(&input, usize::from(length), n, number)
 }
 
 // A case of the first table.
-fn head_is_right(row: u16) -> bool {
-    let number = head_cell(row, 3);
-    is_answered(
-        head_cell(row, 0),
-        head_cell(row, 1),
-        head_cell(row, 2),
-        0,
-        number,
-    )
+pub fn head_is_right(row: &[u16; 4]) -> bool {
+    let [length, events, n, number] = *row;
+    is_answered(length, events, n, 0, number)
 }
 
 // A case of the second table.
-fn size_is_right(row: u16) -> bool {
-    let number = size_cell(row, 3);
-    is_answered(
-        size_cell(row, 0),
-        0,
-        size_cell(row, 1),
-        size_cell(row, 2),
-        number,
-    )
-}
-
-// A case of the program's own order.
-pub fn own_is_right(row: u16) -> bool {
-    if row < HEADS {
-        head_is_right(row)
-    } else {
-        size_is_right(row - HEADS)
-    }
+pub fn size_is_right(row: &[u16; 4]) -> bool {
+    let [length, n, m, number] = *row;
+    is_answered(length, 0, n, m, number)
 }
 
 // The search's number, but 20 where n or m is above the program's own sizes.
 fn own_number(number: u16, n: u16, m: u16) -> u16 {
-    if number == 1 {
-        if (n > 512) | (m > 2048) {
-            return 20;
-        }
+    if (number == 1) & ((n > 512) | (m > 2048)) {
+        return 20;
     }
     number
 }

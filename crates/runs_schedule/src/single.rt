@@ -1,49 +1,37 @@
 // Schedules of one byte: every byte for every P from 0 to 9, and some bytes whose number is written
 // out.
 use crate::composed::{events_of, number};
+use numbers::told;
 use std::io;
-use testkit::group::Tally;
-
-// The cases of a P, and how many of its bytes were taken.
-#[derive(Clone, Copy)]
-struct Seen {
-    tally: Tally,
-    taken: u64,
-}
+use testkit::group::{Tally, all};
 
 // The number of the schedule that is this byte alone.
 fn number_of(byte: u8, workers: usize) -> usize {
-    let bytes = [byte];
-    schedule::schedule_number(&bytes, workers)
+    told(&schedule::check_schedule(&[byte], workers))
 }
 
 // Every byte for a P.
-fn every_byte(workers: usize) -> Seen {
+fn every_byte(workers: usize) -> Tally {
     let events = events_of(workers);
-    let mut tally = Tally::new();
-    let mut taken: u64 = 0;
-    let mut byte: usize = 0;
-    while byte < 256 {
-        let answer = number_of(byte as u8, workers);
-        tally = tally.with(answer == number(workers, events[byte]));
-        if answer == 0 {
-            taken = std::num::wrapping_add_u64(taken, 1);
-        }
-        byte += 1;
-    }
-    Seen { tally, taken }
+    let cases = (0..=255u8).zip(&events);
+    all(cases, |(byte, is_event)| {
+        number_of(byte, workers) == number(workers, *is_event)
+    })
+}
+
+// How many bytes are taken for a P.
+fn taken(workers: usize) -> usize {
+    let bytes = 0..=255u8;
+    bytes.filter(|byte| number_of(*byte, workers) == 0).count()
 }
 
 // Every byte for every P, and writes how many bytes were taken for each.
 fn every_p(rt: &impl Print) -> io::Result<Tally> {
     let mut tally = Tally::new();
-    let mut workers = 0;
-    while workers <= 9 {
-        let seen = every_byte(workers);
-        tally = tally.and(seen.tally);
-        let taken = seen.taken;
-        print!(rt; " {taken}")?;
-        workers += 1;
+    for workers in 0..=9 {
+        tally = tally.and(every_byte(workers));
+        let count = taken(workers);
+        print!(rt; " {count}")?;
     }
     Ok(tally)
 }
@@ -61,6 +49,6 @@ pub fn run(rt: &impl Print) -> io::Result<()> {
     print!(rt; "bytes taken for P from 0 to 9:")?;
     let all = every_p(rt)?;
     println!(rt)?;
-    all.print(rt, b"every byte for every P")?;
-    by_hand().print(rt, b"bytes by hand")
+    all.print(rt, "every byte for every P")?;
+    by_hand().print(rt, "bytes by hand")
 }

@@ -7,24 +7,6 @@ use searchkit::{
 use std::io;
 use testkit::group::Tally;
 
-const REFUSAL_GROUP: u16 = 0;
-
-const FAULT_GROUP: u16 = 1;
-
-const LENGTH_GROUP: u16 = 2;
-
-const RANDOM_GROUP: u16 = 3;
-
-const SIZE_GROUP: u16 = 4;
-
-const BENCH_GROUP: u16 = 5;
-
-const FAN_GROUP: u16 = 6;
-
-const CUT_GROUP: u16 = 7;
-
-const PATH_GROUP: u16 = 8;
-
 // A group's tally, how many of its searches were finished, the sums of what was answered, and a
 // number made of all labels.
 #[derive(Clone, Copy)]
@@ -37,114 +19,74 @@ struct Sums {
     digest: u64,
 }
 
-fn count(is_counted: bool) -> u64 {
-    if is_counted { 1 } else { 0 }
+impl Sums {
+    // The sums of no cases.
+    fn new() -> Self {
+        Sums {
+            tally: Tally::new(),
+            finished: 0,
+            used: 0,
+            effective: 0,
+            layers: 0,
+            digest: 0,
+        }
+    }
+
+    // One case more.
+    fn with(self, report: Report) -> Self {
+        let seen = report.seen;
+        let is_finished = seen.number == 0 && report.right;
+        Sums {
+            tally: self.tally.with(report.right),
+            finished: self.finished.wrapping_add(u64::from(is_finished)),
+            used: self.used.wrapping_add(seen.used as u64),
+            effective: self.effective.wrapping_add(seen.effective as u64),
+            layers: self.layers.wrapping_add(seen.layer as u64),
+            digest: self.digest % 2147483647 * 31 + report.digest % 2147483647,
+        }
+    }
+
+    // The group's line.
+    fn print_tally(self, rt: &impl Print, name: &str) -> io::Result<()> {
+        self.tally.print(rt, name)
+    }
+
+    // The group's line, and one for its sums.
+    fn print(self, rt: &impl Print, name: &str) -> io::Result<()> {
+        self.print_tally(rt, name)?;
+        let Sums {
+            finished,
+            used,
+            effective,
+            layers,
+            ..
+        } = self;
+        print!(rt; "{finished} finished, {used} events used, {effective} effective, ")?;
+        let labels = self.digest % 2147483647;
+        println!(rt; "{layers} layers, labels {labels}")
+    }
 }
 
-// One case more.
-fn with(sums: Sums, report: Report) -> Sums {
-    let tally = sums.tally;
-    let seen = report.seen;
-    let done = count((seen.number == 0) & report.right);
-    Sums {
-        tally: tally.with(report.right),
-        finished: std::num::wrapping_add_u64(sums.finished, done),
-        used: std::num::wrapping_add_u64(sums.used, seen.used as u64),
-        effective: std::num::wrapping_add_u64(sums.effective, seen.effective as u64),
-        layers: std::num::wrapping_add_u64(sums.layers, seen.layer as u64),
-        digest: sums.digest % 2147483647 * 31 + report.digest % 2147483647,
-    }
-}
-
-// A case of a group of the counts.
-fn histogram_report(group: u16, case: u16) -> Report {
-    if group == FAN_GROUP {
-        return histogram::fan_report(case);
-    }
-    if group == CUT_GROUP {
-        return histogram::cut_report(case);
-    }
-    histogram::path_report(case)
-}
-
-// A case of a group.
-fn report_of(group: u16, case: u16) -> Report {
-    if group >= FAN_GROUP {
-        return histogram_report(group, case);
-    }
-    if group == REFUSAL_GROUP {
-        return tables::refusals_report(case);
-    }
-    if group == FAULT_GROUP {
-        return tables::faults_report(case);
-    }
-    if group == LENGTH_GROUP {
-        return drawn::lengths_report(case);
-    }
-    if group == RANDOM_GROUP {
-        return drawn::random_report(case);
-    }
-    if group == SIZE_GROUP {
-        return drawn::sizes_report(case);
-    }
-    tables::bench_report(case)
-}
-
-// All cases of a group.
-fn all(group: u16, cases: u16) -> Sums {
-    let mut sums = Sums {
-        tally: Tally::new(),
-        finished: 0,
-        used: 0,
-        effective: 0,
-        layers: 0,
-        digest: 0,
-    };
-    let mut case: u16 = 0;
-    while case < cases {
-        sums = with(sums, report_of(group, case));
-        case += 1;
+// All cases of a group. `testkit`'s `all` counts what is right alone; here sums of its own are added up.
+fn all<F: Fn(u16) -> Report>(cases: u16, report_of: F) -> Sums
+    requires { F.IsAlwaysCallable report_of }
+{
+    let mut sums = Sums::new();
+    for case in 0..cases {
+        sums = sums.with(report_of(case));
     }
     sums
 }
 
-// Writes the number and what it counts.
-fn print_sum(rt: &impl Print, number: u64, name: &str) -> io::Result<()> {
-    print!(rt; "{number}{name}")
-}
-
-// The group's line.
-fn print(rt: &impl Print, group: u16, cases: u16, name: &str) -> io::Result<()> {
-    let sums = all(group, cases);
-    let tally = sums.tally;
-    tally.print(rt, name.as_bytes())
-}
-
-// The group's line, and one for its sums.
-fn print_sums(rt: &impl Print, group: u16, cases: u16, name: &str) -> io::Result<()> {
-    let sums = all(group, cases);
-    let tally = sums.tally;
-    tally.print(rt, name.as_bytes())?;
-    print_sum(rt, sums.finished, " finished, ")?;
-    print_sum(rt, sums.used, " events used, ")?;
-    print_sum(rt, sums.effective, " effective, ")?;
-    print_sum(rt, sums.layers, " layers, labels ")?;
-    print_sum(rt, sums.digest % 2147483647, "\n")
-}
-
 pub fn run(rt: &impl Print) -> io::Result<()> {
-    print(rt, BENCH_GROUP, bench::CASES, "cases A to I")?;
-    print(rt, REFUSAL_GROUP, refusals::ROWS, "refusals")?;
-    print(rt, FAULT_GROUP, faults::COMBINATIONS, "sets of faults")?;
-    print(
-        rt,
-        LENGTH_GROUP,
-        short_lists::COMBINATIONS,
-        "lengths of the lists",
-    )?;
-    print_sums(rt, RANDOM_GROUP, random_plans::ROUNDS, "random schedules")?;
-    print_sums(rt, SIZE_GROUP, sizes::ROWS, "sizes")?;
-    print(rt, FAN_GROUP, fans::CASES, "census of fans")?;
-    print_sums(rt, CUT_GROUP, beginnings::CASES, "census after each byte")?;
-    print(rt, PATH_GROUP, paths::CASES, "census of a path")
+    all(bench::CASES, tables::bench_report).print_tally(rt, "cases A to I")?;
+    all(refusals::ROWS, tables::refusals_report).print_tally(rt, "refusals")?;
+    all(faults::COMBINATIONS, tables::faults_report).print_tally(rt, "sets of faults")?;
+    let lengths = all(short_lists::COMBINATIONS, drawn::lengths_report);
+    lengths.print_tally(rt, "lengths of the lists")?;
+    all(random_plans::ROUNDS, drawn::random_report).print(rt, "random schedules")?;
+    all(sizes::ROWS, drawn::sizes_report).print(rt, "sizes")?;
+    all(fans::CASES, histogram::fan_report).print_tally(rt, "census of fans")?;
+    all(beginnings::CASES, histogram::cut_report).print(rt, "census after each byte")?;
+    all(paths::CASES, histogram::path_report).print_tally(rt, "census of a path")
 }

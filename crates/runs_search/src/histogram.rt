@@ -2,11 +2,11 @@
 // drawn schedules, cut at every byte; the longest path, cut at nine places. The counts of fans and of the
 // path are also known from the input alone.
 use crate::drawn::{played, searched};
-use crate::rooms;
+use crate::rooms::Large;
 use crate::tables::called;
-use searchkit::compare::{DISTANCES_TAG, HISTOGRAM_TAG, PARENTS_TAG};
 use searchkit::requests::Report;
 use searchkit::{beginnings, events, fans, paths};
+use testkit::sample::Graph;
 use testkit::words::holds;
 
 // A beginning of a fan's schedule.
@@ -26,20 +26,17 @@ pub fn fan_report(case: u16) -> Report {
         &mut order,
     );
     fans::make_schedule(case, &mut schedule);
+    let graph = Graph {
+        file: &file,
+        rows: &rows,
+        row_targets: &row_targets,
+    };
     let request = fans::request_of(case);
-    let report = called(
-        &file,
-        &schedule,
-        &rows,
-        &row_targets,
-        request,
-        fans::number(case),
-    );
-    let seen = report.seen;
+    let report = called(graph, &schedule, request, fans::number(case));
     Report {
-        seen,
         digest: 0,
         right: fans::is_right(case, report),
+        ..report
     }
 }
 
@@ -60,33 +57,21 @@ pub fn cut_report(case: u16) -> Report {
         &mut order,
     );
     events::draw(&mut schedule, 400, plan.mixture, plan.workers, plan.seed);
-    played(searched(
-        &file,
-        &schedule,
-        plan,
-        beginnings::lent(plan, case),
-        &rows,
-        &row_targets,
-    ))
+    let graph = Graph {
+        file: &file,
+        rows: &rows,
+        row_targets: &row_targets,
+    };
+    let lengths = beginnings::lent(plan, case);
+    played(searched(graph, &schedule, plan, lengths))
 }
 
-// The longest path in these lists: every vertex that is reached stands alone at its distance.
-fn path_in(case: u16, file: &[u8], schedule: &[u8], rows: &[u16], row_targets: &[u16]) -> Report {
-    let mut distances = [DISTANCES_TAG; 4102];
-    let mut parents = [PARENTS_TAG; 4102];
-    let mut histogram = [HISTOGRAM_TAG; 4102];
-    let done = rooms::large(
-        file,
-        schedule,
-        paths::request_of(case),
-        rows,
-        row_targets,
-        &mut distances,
-        &mut parents,
-        &mut histogram,
-    );
+// The longest path in large lists: every vertex that is reached stands alone at its distance.
+fn path_in(case: u16, graph: Graph, schedule: &[u8]) -> Report {
+    let mut room = Large::new();
+    let done = room.call(graph, schedule, paths::request_of(case));
     let seen = done.seen;
-    let ones = holds(&histogram, paths::reached(case), 1);
+    let ones = holds(&room.histogram, paths::reached(case), 1);
     Report {
         seen,
         digest: 0,
@@ -110,5 +95,10 @@ pub fn path_report(case: u16) -> Report {
         &mut order,
     );
     events::draw(&mut schedule, paths::BYTES, 0, 1, 1);
-    path_in(case, &file, &schedule, &rows, &row_targets)
+    let graph = Graph {
+        file: &file,
+        rows: &rows,
+        row_targets: &row_targets,
+    };
+    path_in(case, graph, &schedule)
 }

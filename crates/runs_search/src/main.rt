@@ -4,7 +4,6 @@
 // give.
 #![tactic(auto)]
 
-mod calls;
 mod drawn;
 mod groups;
 mod histogram;

@@ -1,54 +1,33 @@
 // The cases of `searchkit`'s tables: document 01's cases, an input for every kind of refusal, and
 // all sets of faults.
-use crate::rooms;
+use crate::rooms::Small;
 use searchkit::base::{FILE, SCHEDULE, code};
 use searchkit::bench::is_answer;
-use searchkit::compare::{DISTANCES_TAG, HISTOGRAM_TAG, PARENTS_TAG};
 use searchkit::requests::{Report, Request, is_played};
 use searchkit::{bench, faults, refusals};
 use testkit::files::put_words;
+use testkit::sample::Graph;
 
 // Whether the call answers the number and leaves the lists as it must; of the labels and the counts it
 // gives the code.
-pub fn called(
-    file: &[u8],
-    schedule: &[u8],
-    rows: &[u16],
-    row_targets: &[u16],
-    request: Request,
-    number: u16,
-) -> Report {
-    let mut distances = [DISTANCES_TAG; 24];
-    let mut parents = [PARENTS_TAG; 24];
-    let mut histogram = [HISTOGRAM_TAG; 24];
-    let done = rooms::small(
-        file,
-        schedule,
-        request,
-        rows,
-        row_targets,
-        &mut distances,
-        &mut parents,
-        &mut histogram,
-    );
-    let seen = done.seen;
+pub fn called(graph: Graph, schedule: &[u8], request: Request, number: u16) -> Report {
+    let mut room = Small::new();
+    let done = room.call(graph, schedule, request);
     Report {
-        seen,
-        digest: code(&distances, &parents, &histogram),
-        right: done.right & (seen.number == number as usize),
+        seen: done.seen,
+        digest: code(&room.distances, &room.parents, &room.histogram),
+        right: done.right & (done.seen.number == usize::from(number)),
     }
 }
 
 // `called` with case A's rows.
 fn called_square(file: &[u8], schedule: &[u8], request: Request, number: u16) -> Report {
-    called(
+    let graph = Graph {
         file,
-        schedule,
-        &[0, 2, 3, 4, 4],
-        &[1, 2, 3, 3],
-        request,
-        number,
-    )
+        rows: &[0, 2, 3, 4, 4],
+        row_targets: &[1, 2, 3, 3],
+    };
+    called(graph, schedule, request, number)
 }
 
 // A, or B with its events swapped: the distances are 0, 1, 1 and 2, the parents 0, 0, 0 and 1, with
@@ -60,11 +39,11 @@ fn square(is_swapped: bool) -> Report {
     bench::make_square(&mut schedule, is_swapped);
     let report = called_square(&file, &schedule, bench::square(), 0);
     let labels = if is_swapped { 11200021210 } else { 11200011210 };
-    let seen = report.seen;
+    let answered = is_answer(report.seen, 0, 25, 2);
     Report {
-        seen,
         digest: 0,
-        right: report.right & is_answer(seen, 0, 25, 2) & (report.digest == labels),
+        right: report.right & answered & (report.digest == labels),
+        ..report
     }
 }
 
@@ -75,13 +54,18 @@ fn point(row: u16) -> Report {
     bench::make_file(&mut file, row);
     bench::make_schedule(&mut schedule, row);
     let number = bench::cell(row, 10);
-    let report = called(&file, &schedule, &[0, 0], &[], bench::point(row), number);
+    let graph = Graph {
+        file: &file,
+        rows: &[0, 0],
+        row_targets: &[],
+    };
+    let report = called(graph, &schedule, bench::point(row), number);
     let seen = report.seen;
     let labels = (report.digest == 11102221333) == is_played(seen.number);
     Report {
-        seen,
         digest: 0,
         right: report.right & is_answer(seen, number, bench::cell(row, 11), 0) & labels,
+        ..report
     }
 }
 

@@ -6,7 +6,7 @@ use testkit::group::Tally;
 use testkit::random::{below, leap, next};
 use testkit::reading;
 use testkit::sample::draw;
-use testkit::words::{at, put};
+use testkit::words::put;
 
 const VERTICES: u16 = 9;
 
@@ -14,34 +14,11 @@ const EDGES: u16 = 20;
 
 const ROUND_COUNT: u16 = 2000;
 
-// Whether an offset is above the one after it, from the last on.
-fn falls(offsets: &[u16]) -> bool {
-    let mut vertex: u16 = VERTICES;
-    while vertex > 0 {
-        if at(offsets, vertex) < at(offsets, vertex - 1) {
-            return true;
-        }
-        vertex -= 1;
-    }
-    false
-}
-
-// Whether a target is no vertex, from the last on.
-fn leaves(targets: &[u16]) -> bool {
-    let mut edge: u16 = EDGES;
-    while edge > 0 {
-        if VERTICES <= at(targets, edge - 1) {
-            return true;
-        }
-        edge -= 1;
-    }
-    false
-}
-
-// The number that writing must answer with a list of bytes at its need.
+// The number that writing must answer with a list of bytes at its need: 11 where the offsets don't
+// rise from 0 to m, or a target is no vertex.
 fn expected(offsets: &[u16], targets: &[u16]) -> usize {
-    let ends = (at(offsets, 0) == 0) & (at(offsets, VERTICES) == EDGES);
-    if ends & !falls(offsets) & !leaves(targets) {
+    let ends = offsets.first() == Some(&0) && offsets.last() == Some(&EDGES);
+    if ends && offsets.is_sorted() && targets.iter().all(|target| *target < VERTICES) {
         0
     } else {
         11
@@ -65,7 +42,7 @@ fn comes_back(offsets: &[u16], targets: &[u16]) -> bool {
     let mut got_targets = [0u16; 20];
     let mut marks = [0u16; 20];
     let lengths = reading::needs(VERTICES, EDGES);
-    let number = writer::write(offsets, targets, &mut file);
+    let answer = writer::write(offsets, targets, &mut file);
     let back = reading::reads(
         &file,
         &mut got_offsets,
@@ -77,7 +54,7 @@ fn comes_back(offsets: &[u16], targets: &[u16]) -> bool {
         VERTICES,
         EDGES,
     );
-    (number == 0) & back
+    answer.is_ok() & back
 }
 
 fn is_refused(offsets: &[u16], targets: &[u16], number: usize) -> bool {
@@ -114,16 +91,14 @@ fn judged(tally: Tally, number: usize, round: u16, seed: u64) -> Tally {
 fn rounds(number: usize) -> Tally {
     let mut tally = Tally::new();
     let mut state: u64 = 8;
-    let mut round: u16 = 0;
-    while round < ROUND_COUNT {
+    for round in 0..ROUND_COUNT {
         state = leap(state);
         tally = judged(tally, number, round, state);
-        round += 1;
     }
     tally
 }
 
 pub fn run(rt: &impl Print) -> io::Result<()> {
-    rounds(0).print(rt, b"damaged rows that are written")?;
-    rounds(11).print(rt, b"damaged rows that are refused")
+    rounds(0).print(rt, "damaged rows that are written")?;
+    rounds(11).print(rt, "damaged rows that are refused")
 }

@@ -4,8 +4,7 @@
 use crate::views::{gives, is_out};
 use std::io;
 use testkit::group::Tally;
-use testkit::sample::after;
-use testkit::words::{prefix, put, stamp};
+use testkit::words::{first, stamp};
 
 const MOST_VERTICES: u16 = 4096;
 
@@ -20,8 +19,8 @@ fn start_at(vertex: u16, more: u16) -> u16 {
     if vertex == 0 {
         return 0;
     }
-    let start = 8 * (vertex as usize) + more as usize;
-    if start < MOST_EDGES as usize {
+    let start = 8 * usize::from(vertex) + usize::from(more);
+    if start < usize::from(MOST_EDGES) {
         start as u16
     } else {
         MOST_EDGES
@@ -30,10 +29,8 @@ fn start_at(vertex: u16, more: u16) -> u16 {
 
 // The offsets of these rows.
 fn put_starts(offsets: &mut [u16], more: u16) {
-    let mut vertex: u16 = 0;
-    while vertex <= MOST_VERTICES {
-        put(offsets, vertex, start_at(vertex, more));
-        vertex += 1;
+    for (vertex, start) in (0..=MOST_VERTICES).zip(offsets) {
+        *start = start_at(vertex, more);
     }
 }
 
@@ -46,12 +43,10 @@ fn make(offsets: &mut [u16], targets: &mut [u16], more: u16) {
 // Each row.
 fn all_rows(offsets: &[u16], targets: &[u16], more: u16) -> Tally {
     let mut tally = Tally::new();
-    let mut vertex: u16 = 0;
-    while vertex < MOST_VERTICES {
-        let start = start_at(vertex, more) as usize;
-        let end = start_at(after(vertex), more) as usize;
-        tally = tally.with(gives(offsets, targets, vertex as usize, start, end));
-        vertex += 1;
+    for vertex in 0..MOST_VERTICES {
+        let start = usize::from(start_at(vertex, more));
+        let end = usize::from(start_at(vertex + 1, more));
+        tally = tally.with(gives(offsets, targets, usize::from(vertex), start, end));
     }
     tally
 }
@@ -65,19 +60,16 @@ fn in_view(more: u16) -> Tally {
 
 // A vertex too many; the last vertex with an offset or a target too few.
 fn out_of_view(offsets: &[u16], targets: &[u16]) -> Tally {
-    let o = prefix(offsets, 4096);
-    let t = prefix(targets, 32767);
     Tally::new()
         .with(is_out(offsets, targets, 4096))
-        .with(is_out(&offsets[..o], targets, 4095))
-        .with(is_out(offsets, &targets[..t], 4095))
+        .with(is_out(first(offsets, 4096), targets, 4095))
+        .with(is_out(offsets, first(targets, 32767), 4095))
 }
 
 // With a target too few a row that ends before it.
 fn still_in_view(offsets: &[u16], targets: &[u16], more: u16) -> bool {
-    let t = prefix(targets, 32767);
-    let start = start_at(4093, more) as usize;
-    gives(offsets, &targets[..t], 4093, start, start + 8)
+    let start = usize::from(start_at(4093, more));
+    gives(offsets, first(targets, 32767), 4093, start, start + 8)
 }
 
 fn one_short(more: u16) -> Tally {
@@ -91,8 +83,8 @@ fn one_short(more: u16) -> Tally {
 pub fn run(rt: &impl Print) -> io::Result<()> {
     in_view(0)
         .and(in_view(8))
-        .print(rt, b"rows of the largest graph")?;
+        .print(rt, "rows of the largest graph")?;
     one_short(0)
         .and(one_short(8))
-        .print(rt, b"largest graph, one short")
+        .print(rt, "largest graph, one short")
 }

@@ -3,7 +3,7 @@
 use crate::writing::{Lengths, refuses, writes};
 use std::io;
 use testkit::files::put_words;
-use testkit::group::Tally;
+use testkit::group::{Tally, all};
 use testkit::words::put;
 
 // Good rows: 4 vertices, 4 edges, a file of 28 bytes. A place past the need holds 4 or 0.
@@ -16,91 +16,67 @@ const FOUR: [u16; 14] = [4, 4, 1, 3, 4, 0, 1, 2, 2, 0, 3, 0, 3, 0];
 
 const FIVE: [u16; 15] = [5, 4, 1, 3, 4, 0, 0, 1, 2, 2, 0, 3, 0, 3, 0];
 
-const CASE_ROWS: u16 = 28;
-
 // The offsets' length, a place and its value; the targets' length, a place and its value; the
 // file's length; the number. Place 7 is no change.
-const CASES: [[u16; 8]; 28] = [
+#[derive(Clone, Copy)]
+struct Case((usize, u16, u16), (usize, u16, u16), usize, usize);
+
+const CASES: [Case; 28] = [
     // offsets empty, or one alone
-    [0, 7, 0, 4, 7, 0, 28, 11],
-    [0, 7, 0, 0, 7, 0, 28, 11],
-    [1, 7, 0, 4, 7, 0, 28, 11],
-    [1, 7, 0, 0, 7, 0, 28, 11],
+    Case((0, 7, 0), (4, 7, 0), 28, 11),
+    Case((0, 7, 0), (0, 7, 0), 28, 11),
+    Case((1, 7, 0), (4, 7, 0), 28, 11),
+    Case((1, 7, 0), (0, 7, 0), 28, 11),
     // not 0 first
-    [5, 0, 1, 4, 7, 0, 28, 11],
-    [5, 0, 2, 4, 7, 0, 28, 11],
-    [5, 0, 65535, 4, 7, 0, 28, 11],
+    Case((5, 0, 1), (4, 7, 0), 28, 11),
+    Case((5, 0, 2), (4, 7, 0), 28, 11),
+    Case((5, 0, 65535), (4, 7, 0), 28, 11),
     // falling: from the second, in the middle, at the end, after the end
-    [5, 1, 4, 4, 7, 0, 28, 11],
-    [5, 2, 1, 4, 7, 0, 28, 11],
-    [5, 3, 5, 4, 7, 0, 28, 11],
-    [5, 1, 65535, 4, 7, 0, 28, 11],
-    [7, 7, 0, 4, 7, 0, 64, 11],
+    Case((5, 1, 4), (4, 7, 0), 28, 11),
+    Case((5, 2, 1), (4, 7, 0), 28, 11),
+    Case((5, 3, 5), (4, 7, 0), 28, 11),
+    Case((5, 1, 65535), (4, 7, 0), 28, 11),
+    Case((7, 7, 0), (4, 7, 0), 64, 11),
     // not m last
-    [5, 4, 5, 4, 7, 0, 28, 11],
-    [5, 4, 65535, 4, 7, 0, 28, 11],
-    [5, 4, 3, 4, 7, 0, 28, 11],
-    [3, 7, 0, 4, 7, 0, 28, 11],
-    [5, 7, 0, 3, 7, 0, 28, 11],
-    [5, 7, 0, 5, 7, 0, 64, 11],
-    [5, 7, 0, 0, 7, 0, 28, 11],
+    Case((5, 4, 5), (4, 7, 0), 28, 11),
+    Case((5, 4, 65535), (4, 7, 0), 28, 11),
+    Case((5, 4, 3), (4, 7, 0), 28, 11),
+    Case((3, 7, 0), (4, 7, 0), 28, 11),
+    Case((5, 7, 0), (3, 7, 0), 28, 11),
+    Case((5, 7, 0), (5, 7, 0), 64, 11),
+    Case((5, 7, 0), (0, 7, 0), 28, 11),
     // a target of n or more: the first, the last, a large one; with n smaller
-    [5, 7, 0, 4, 0, 4, 28, 11],
-    [5, 7, 0, 4, 3, 4, 28, 11],
-    [5, 7, 0, 4, 2, 65535, 28, 11],
-    [4, 7, 0, 4, 7, 0, 28, 11],
+    Case((5, 7, 0), (4, 0, 4), 28, 11),
+    Case((5, 7, 0), (4, 3, 4), 28, 11),
+    Case((5, 7, 0), (4, 2, 65535), 28, 11),
+    Case((4, 7, 0), (4, 7, 0), 28, 11),
     // 11 before 20
-    [5, 7, 0, 4, 3, 4, 27, 11],
-    [0, 7, 0, 0, 7, 0, 0, 11],
+    Case((5, 7, 0), (4, 3, 4), 27, 11),
+    Case((0, 7, 0), (0, 7, 0), 0, 11),
     // 20
-    [5, 7, 0, 4, 7, 0, 27, 20],
-    [5, 7, 0, 4, 7, 0, 4, 20],
-    [5, 7, 0, 4, 7, 0, 0, 20],
+    Case((5, 7, 0), (4, 7, 0), 27, 20),
+    Case((5, 7, 0), (4, 7, 0), 4, 20),
+    Case((5, 7, 0), (4, 7, 0), 0, 20),
 ];
 
-// A place of the table; 0 outside it.
-fn cell(row: u16, column: u16) -> u16 {
-    let i = row as usize;
-    let j = column as usize;
-    if i < 28 {
-        if j < 8 {
-            return CASES[i][j];
-        }
-    }
-    0
-}
-
-fn lent(row: u16) -> Lengths {
-    Lengths {
-        offsets: cell(row, 0) as usize,
-        targets: cell(row, 3) as usize,
-        file: cell(row, 6) as usize,
-    }
-}
-
-fn is_right(row: u16) -> bool {
+fn is_right(case: &Case) -> bool {
+    let Case((offsets_length, place, offset), (targets_length, edge, target), length, number) =
+        *case;
+    let lent = Lengths {
+        offsets: offsets_length,
+        targets: targets_length,
+        file: length,
+    };
     let mut offsets = OFFSETS;
     let mut targets = TARGETS;
     let mut file = [0u8; 64];
-    put(&mut offsets, cell(row, 1), cell(row, 2));
-    put(&mut targets, cell(row, 4), cell(row, 5));
-    refuses(
-        &offsets,
-        &targets,
-        &mut file,
-        lent(row),
-        cell(row, 7) as usize,
-    )
+    put(&mut offsets, place, offset);
+    put(&mut targets, edge, target);
+    refuses(&offsets, &targets, &mut file, lent, number)
 }
 
 fn table() -> Tally {
-    let mut tally = Tally::new();
-    let mut row: u16 = 0;
-    while row < CASE_ROWS {
-        tally = tally.with(is_right(row));
-        row += 1;
-    }
-    tally
+    all(CASES.iter(), is_right)
 }
 
 // Whether the first places of these offsets and of the good targets are written as these words,
@@ -114,11 +90,7 @@ fn is_written(offsets: &[u16], places: usize, edges: usize, words: &[u16], lengt
         targets: edges,
         file: length,
     };
-    let longer = Lengths {
-        offsets: places,
-        targets: edges,
-        file: 64,
-    };
+    let longer = Lengths { file: 64, ..exact };
     let first = writes(offsets, &TARGETS, &mut file, exact, &want, length);
     first & writes(offsets, &TARGETS, &mut file, longer, &want, length)
 }
@@ -132,6 +104,6 @@ fn accepted() -> Tally {
 }
 
 pub fn run(rt: &impl Print) -> io::Result<()> {
-    table().print(rt, b"writer's refusals")?;
-    accepted().print(rt, b"written by hand")
+    table().print(rt, "writer's refusals")?;
+    accepted().print(rt, "written by hand")
 }

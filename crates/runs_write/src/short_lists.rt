@@ -4,75 +4,64 @@
 use crate::drawn;
 use crate::writing::{Lengths, needs};
 use std::io;
-use testkit::group::Tally;
-use testkit::words::extra;
+use testkit::group::{Tally, all};
+use testkit::words::{choices, extra, short};
 
 const VERTICES: u16 = 37;
 
 const EDGES: u16 = 101;
 
-// The lists' lengths: the combination's digits to the base 3 choose them. The file has 482 bytes.
-fn lent(combination: u16) -> Lengths {
+// The lists' lengths. The file has 482 bytes.
+fn lent([offsets, targets, file]: [u16; 3]) -> Lengths {
     Lengths {
-        offsets: 37 + extra(combination % 3),
-        targets: 100 + extra(combination / 3 % 3),
-        file: 481 + extra(combination / 9 % 3),
+        offsets: 37 + extra(offsets),
+        targets: 100 + extra(targets),
+        file: 481 + extra(file),
     }
 }
 
 // 11 where the rows have another length, then 20 where the file is one short.
-fn expected(combination: u16) -> usize {
-    if combination % 3 != 1 {
-        return 11;
+fn expected(choices: [u16; 3]) -> usize {
+    match choices {
+        [1, 1, 0] => 20,
+        [1, 1, _] => 0,
+        _ => 11,
     }
-    if combination / 3 % 3 != 1 {
-        return 11;
-    }
-    if combination / 9 % 3 == 0 {
-        return 20;
-    }
-    0
-}
-
-fn is_right(combination: u16) -> bool {
-    drawn::is_right(VERTICES, EDGES, lent(combination), expected(combination))
 }
 
 fn combinations() -> Tally {
-    let mut tally = Tally::new();
-    let mut combination: u16 = 0;
-    while combination < 27 {
-        tally = tally.with(is_right(combination));
-        combination += 1;
-    }
-    tally
+    all(0..27, |combination| {
+        let chosen = choices(combination);
+        drawn::is_right(VERTICES, EDGES, lent(chosen), expected(chosen))
+    })
 }
 
-// The need, or one less.
-fn less(need: usize, is_short: bool) -> usize {
-    if is_short {
-        std::num::wrapping_sub_usize(need, 1)
-    } else {
-        need
-    }
-}
-
-// The largest size, with one list short: 0 for the offsets, 1 for the targets, 2 for the bytes.
-fn largest_is_right(short: u16, number: usize) -> bool {
-    let need = needs(4096, 32768);
-    let lent = Lengths {
-        offsets: less(need.offsets, short == 0),
-        targets: less(need.targets, short == 1),
-        file: less(need.file, short == 2),
-    };
+fn largest_is_right(lent: Lengths, number: usize) -> bool {
     drawn::is_right(4096, 32768, lent, number)
 }
 
+// The largest size, with one list short.
+fn largest() -> Tally {
+    let need = needs(4096, 32768);
+    let offsets = Lengths {
+        offsets: short(need.offsets),
+        ..need
+    };
+    let targets = Lengths {
+        targets: short(need.targets),
+        ..need
+    };
+    let file = Lengths {
+        file: short(need.file),
+        ..need
+    };
+    Tally::new()
+        .with(largest_is_right(offsets, 11))
+        .with(largest_is_right(targets, 11))
+        .with(largest_is_right(file, 20))
+}
+
 pub fn run(rt: &impl Print) -> io::Result<()> {
-    combinations().print(rt, b"lengths of the writer's lists")?;
-    let largest = Tally::new()
-        .with(largest_is_right(0, 11))
-        .with(largest_is_right(1, 11))
-        .with(largest_is_right(2, 20));
-    largest.print(rt, b"largest rows, one list short")
+    combinations().print(rt, "lengths of the writer's lists")?;
+    largest().print(rt, "largest rows, one list short")
 }

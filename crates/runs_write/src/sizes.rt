@@ -3,24 +3,21 @@
 use crate::drawn;
 use crate::writing::needs;
 use std::io;
-use testkit::group::Tally;
+use testkit::group::{Tally, all};
 
-fn is_right(vertices: u16, edges: u16, number: usize) -> bool {
-    drawn::is_right(vertices, edges, needs(vertices, edges), number)
+// How many vertices and edges.
+const WRITTEN: [(u16, u16); 4] = [(1, 0), (4096, 0), (1, 32768), (4096, 32768)];
+
+const REFUSED: [(u16, u16); 5] = [(0, 0), (4097, 0), (4097, 32768), (1, 32769), (4096, 32769)];
+
+// Whether rows of these sizes are answered with the number.
+fn answered(sizes: &[(u16, u16)], number: usize) -> Tally {
+    all(sizes.iter(), |(vertices, edges)| {
+        drawn::is_right(*vertices, *edges, needs(*vertices, *edges), number)
+    })
 }
 
 pub fn run(rt: &impl Print) -> io::Result<()> {
-    let written = Tally::new()
-        .with(is_right(1, 0, 0))
-        .with(is_right(4096, 0, 0))
-        .with(is_right(1, 32768, 0))
-        .with(is_right(4096, 32768, 0));
-    written.print(rt, b"sizes that are written")?;
-    let refused = Tally::new()
-        .with(is_right(0, 0, 11))
-        .with(is_right(4097, 0, 11))
-        .with(is_right(4097, 32768, 11))
-        .with(is_right(1, 32769, 11))
-        .with(is_right(4096, 32769, 11));
-    refused.print(rt, b"sizes that are not written")
+    answered(&WRITTEN, 0).print(rt, "sizes that are written")?;
+    answered(&REFUSED, 11).print(rt, "sizes that are not written")
 }

@@ -19,145 +19,121 @@ fn drawn_vertices(round: u16, seed: u64) -> u16 {
 
 // No edges, few, or some hundreds.
 fn drawn_edges(round: u16, seed: u64) -> u16 {
-    if round % 10 == 0 {
-        return 0;
+    match round % 10 {
+        0 => 0,
+        1 => below(seed, 20),
+        _ => below(seed, 900),
     }
-    if round % 10 == 1 {
-        return below(seed, 20);
+}
+
+// A drawn graph: its rows, the file that the writer must make of them, and one with shuffled records.
+#[derive(Drop)]
+struct Sample {
+    vertices: u16,
+    edges: u16,
+    offsets: [u16; 310],
+    targets: [u16; 910],
+    canonical: [u8; 4300],
+    shuffled: [u8; 4300],
+}
+
+impl Sample {
+    fn drawn(vertices: u16, edges: u16, seed: u64) -> Self {
+        let mut sources = [0u16; 1000];
+        let mut order = [0u16; 1000];
+        let mut offsets = [0u16; 310];
+        let mut targets = [0u16; 910];
+        let mut canonical = [0u8; 4300];
+        let mut shuffled = [0u8; 4300];
+        draw(
+            &mut sources,
+            &mut targets,
+            &mut offsets,
+            vertices,
+            edges,
+            seed,
+        );
+        encode_in_order(
+            &mut canonical,
+            vertices,
+            edges,
+            &sources,
+            &targets,
+            &mut order,
+        );
+        encode_shuffled(
+            &mut shuffled,
+            vertices,
+            edges,
+            &sources,
+            &targets,
+            &mut order,
+            leap(seed),
+        );
+        Sample {
+            vertices,
+            edges,
+            offsets,
+            targets,
+            canonical,
+            shuffled,
+        }
     }
-    below(seed, 900)
-}
 
-// Draws a graph, the file that the writer must make of it, and one with shuffled records.
-fn make(
-    offsets: &mut [u16],
-    targets: &mut [u16],
-    canonical: &mut [u8],
-    shuffled: &mut [u8],
-    vertices: u16,
-    edges: u16,
-    seed: u64,
-) {
-    let mut sources = [0u16; 1000];
-    let mut order = [0u16; 1000];
-    draw(&mut sources, targets, offsets, vertices, edges, seed);
-    encode_in_order(canonical, vertices, edges, &sources, targets, &mut order);
-    encode_shuffled(
-        shuffled,
-        vertices,
-        edges,
-        &sources,
-        targets,
-        &mut order,
-        leap(seed),
-    );
-}
+    // Whether the writer makes its file of these rows.
+    fn is_written(&self, offsets: &[u16], targets: &[u16], file: &mut [u8]) -> bool {
+        writing::writes(
+            offsets,
+            targets,
+            file,
+            writing::needs(self.vertices, self.edges),
+            &self.canonical,
+            file_length(self.vertices, self.edges),
+        )
+    }
 
-// Rows to a file, and the file that was written back to the rows.
-fn from_rows(
-    offsets: &[u16],
-    targets: &[u16],
-    canonical: &[u8],
-    vertices: u16,
-    edges: u16,
-) -> Tally {
-    let mut file = [0u8; 4300];
-    let mut got_offsets = [0u16; 310];
-    let mut got_targets = [0u16; 910];
-    let mut marks = [0u16; 910];
-    let length = file_length(vertices, edges);
-    let written = writing::writes(
-        offsets,
-        targets,
-        &mut file,
-        writing::needs(vertices, edges),
-        canonical,
-        length,
-    );
-    let read = reading::reads(
-        &file,
-        &mut got_offsets,
-        &mut got_targets,
-        &mut marks,
-        reading::needs(vertices, edges),
-        offsets,
-        targets,
-        vertices,
-        edges,
-    );
-    Tally::new().with(written).with(read)
-}
+    // Whether the graph's rows are read from this file.
+    fn is_read(&self, file: &[u8], offsets: &mut [u16], targets: &mut [u16]) -> bool {
+        let mut marks = [0u16; 910];
+        reading::reads(
+            file,
+            offsets,
+            targets,
+            &mut marks,
+            reading::needs(self.vertices, self.edges),
+            &self.offsets,
+            &self.targets,
+            self.vertices,
+            self.edges,
+        )
+    }
 
-// A file with shuffled records to rows, and the rows that were read to the writer's file.
-fn from_file(
-    shuffled: &[u8],
-    offsets: &[u16],
-    targets: &[u16],
-    canonical: &[u8],
-    vertices: u16,
-    edges: u16,
-) -> Tally {
-    let mut file = [0u8; 4300];
-    let mut got_offsets = [0u16; 310];
-    let mut got_targets = [0u16; 910];
-    let mut marks = [0u16; 910];
-    let length = file_length(vertices, edges);
-    let read = reading::reads(
-        shuffled,
-        &mut got_offsets,
-        &mut got_targets,
-        &mut marks,
-        reading::needs(vertices, edges),
-        offsets,
-        targets,
-        vertices,
-        edges,
-    );
-    let written = writing::writes(
-        &got_offsets,
-        &got_targets,
-        &mut file,
-        writing::needs(vertices, edges),
-        canonical,
-        length,
-    );
-    Tally::new().with(read).with(written)
-}
-
-fn trip(vertices: u16, edges: u16, seed: u64) -> Tally {
-    let mut offsets = [0u16; 310];
-    let mut targets = [0u16; 910];
-    let mut canonical = [0u8; 4300];
-    let mut shuffled = [0u8; 4300];
-    make(
-        &mut offsets,
-        &mut targets,
-        &mut canonical,
-        &mut shuffled,
-        vertices,
-        edges,
-        seed,
-    );
-    let there = from_rows(&offsets, &targets, &canonical, vertices, edges);
-    there.and(from_file(&shuffled, &offsets, &targets, &canonical, vertices, edges))
+    // Rows to a file, and the file that was written back to the rows; then the file with shuffled
+    // records to rows, and the rows that were read to the writer's file.
+    fn trips(&self) -> Tally {
+        let mut file = [0u8; 4300];
+        let mut offsets = [0u16; 310];
+        let mut targets = [0u16; 910];
+        Tally::new()
+            .with(self.is_written(&self.offsets, &self.targets, &mut file))
+            .with(self.is_read(&file, &mut offsets, &mut targets))
+            .with(self.is_read(&self.shuffled, &mut offsets, &mut targets))
+            .with(self.is_written(&offsets, &targets, &mut file))
+    }
 }
 
 fn rounds() -> Tally {
     let mut tally = Tally::new();
     let mut state: u64 = 6;
-    let mut round: u16 = 0;
-    while round < ROUND_COUNT {
+    for round in 0..ROUND_COUNT {
         state = leap(state);
-        tally = tally.and(trip(
-            drawn_vertices(round, state),
-            drawn_edges(round, next(state)),
-            state,
-        ));
-        round += 1;
+        let vertices = drawn_vertices(round, state);
+        let edges = drawn_edges(round, next(state));
+        tally = tally.and(Sample::drawn(vertices, edges, state).trips());
     }
     tally
 }
 
 pub fn run(rt: &impl Print) -> io::Result<()> {
-    rounds().print(rt, b"round trips")
+    rounds().print(rt, "round trips")
 }

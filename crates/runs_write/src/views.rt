@@ -1,62 +1,40 @@
 // The view of one vertex's edges: every row of random graphs, each condition of number 11, and
 // random lists of any form against a plain check.
+use numbers::told;
 use std::io;
 use testkit::group::Tally;
 use testkit::random::{below, leap, next};
-use testkit::sample::{after, draw};
-use testkit::words::{at, at_place, prefix};
+use testkit::sample::draw;
+use testkit::words::first;
 
 const ROUND_COUNT: u16 = 3000;
-
-// Whether the part is what stands in the whole from `start` on.
-fn is_part(part: &[u16], whole: &[u16], start: usize) -> bool {
-    let mut i = 0;
-    while i < part.len() {
-        if part[i] != at_place(whole, std::num::wrapping_add_usize(start, i)) {
-            return false;
-        }
-        i += 1;
-    }
-    true
-}
 
 // Whether the view gives the part from `start` to `end`, and the number 0.
 pub fn gives(offsets: &[u16], targets: &[u16], vertex: usize, start: usize, end: usize) -> bool {
     let part = view::links(offsets, targets, vertex);
-    let number = view::links_number(offsets, targets, vertex);
-    let length = std::num::wrapping_sub_usize(end, start);
-    (number == 0) & (part.len() == length) & (end <= targets.len()) & is_part(part, targets, start)
+    let answer = view::check_links(offsets, targets, vertex);
+    answer.is_ok() && targets.get(start..end) == Some(part)
 }
 
 // Whether the view gives an empty part, and the number 11.
 pub fn is_out(offsets: &[u16], targets: &[u16], vertex: usize) -> bool {
     let part = view::links(offsets, targets, vertex);
-    let number = view::links_number(offsets, targets, vertex);
-    (number == 11) & (part.len() == 0)
+    let answer = view::check_links(offsets, targets, vertex);
+    told(&answer) == 11 && part.is_empty()
 }
 
 // How many edges start before the vertex: where its row starts.
-fn start_of(sources: &[u16], vertex: u16, edges: u16) -> usize {
-    let mut start = 0;
-    let mut edge: u16 = 0;
-    while edge < edges {
-        if at(sources, edge) < vertex {
-            start = std::num::wrapping_add_usize(start, 1);
-        }
-        edge += 1;
-    }
-    start
+fn start_of(sources: &[u16], vertex: u16) -> usize {
+    sources.iter().filter(|source| **source < vertex).count()
 }
 
 // Each row of a graph, by the sources of its edges.
-fn rows(offsets: &[u16], targets: &[u16], sources: &[u16], vertices: u16, edges: u16) -> Tally {
+fn rows(offsets: &[u16], targets: &[u16], sources: &[u16], vertices: u16) -> Tally {
     let mut tally = Tally::new();
-    let mut vertex: u16 = 0;
-    while vertex < vertices {
-        let start = start_of(sources, vertex, edges);
-        let end = start_of(sources, after(vertex), edges);
-        tally = tally.with(gives(offsets, targets, vertex as usize, start, end));
-        vertex += 1;
+    for vertex in 0..vertices {
+        let start = start_of(sources, vertex);
+        let end = start_of(sources, vertex + 1);
+        tally = tally.with(gives(offsets, targets, usize::from(vertex), start, end));
     }
     tally
 }
@@ -66,7 +44,7 @@ fn random_rows(seed: u64) -> Tally {
     let mut targets = [0u16; 250];
     let mut offsets = [0u16; 201];
     draw(&mut sources, &mut targets, &mut offsets, 200, 250, seed);
-    rows(&offsets, &targets, &sources, 200, 250)
+    rows(&offsets, &targets, &sources, 200)
 }
 
 // Each condition of number 11, and rows beside it that are given.
@@ -94,33 +72,30 @@ fn given() -> Tally {
     Tally::new().with(near).with(empty).with(none)
 }
 
-// The four conditions of number 11, one after the other.
-fn is_in_view(offsets: &[u16], targets: &[u16], vertex: u16) -> bool {
-    let count = offsets.len();
-    let next_place = vertex as usize + 1;
-    let start = at(offsets, vertex);
-    let end = at(offsets, after(vertex));
-    (2 <= count) & (next_place < count) & (start <= end) & (end as usize <= targets.len())
+// Where the row of a vertex starts and ends; none where one of the four conditions of number 11 holds.
+fn row_of(offsets: &[u16], targets: &[u16], vertex: usize) -> Option<(usize, usize)> {
+    let start = usize::from(*offsets.get(vertex)?);
+    let end = usize::from(*offsets.get(vertex.wrapping_add(1))?);
+    if start <= end && end <= targets.len() {
+        Some((start, end))
+    } else {
+        None
+    }
 }
 
-fn view_is_right(offsets: &[u16], targets: &[u16], vertex: u16) -> bool {
-    let start = at(offsets, vertex) as usize;
-    let end = at(offsets, after(vertex)) as usize;
-    if is_in_view(offsets, targets, vertex) {
-        gives(offsets, targets, vertex as usize, start, end)
-    } else {
-        is_out(offsets, targets, vertex as usize)
+fn view_is_right(offsets: &[u16], targets: &[u16], vertex: usize) -> bool {
+    match row_of(offsets, targets, vertex) {
+        Some((start, end)) => gives(offsets, targets, vertex, start, end),
+        None => is_out(offsets, targets, vertex),
     }
 }
 
 // Draws every place below the bound.
 fn scatter(list: &mut [u16], bound: u16, seed: u64) {
     let mut state = seed;
-    let mut i = 0;
-    while i < list.len() {
+    for place in list {
         state = next(state);
-        list[i] = below(state, bound);
-        i += 1;
+        *place = below(state, bound);
     }
 }
 
@@ -130,19 +105,18 @@ fn random_view(seed: u64) -> bool {
     let mut targets = [0u16; 8];
     scatter(&mut offsets, 11, seed);
     scatter(&mut targets, 60000, leap(seed));
-    let o = prefix(&offsets, below(leap(seed), 7) as usize);
-    let t = prefix(&targets, below(next(leap(seed)), 9) as usize);
-    view_is_right(&offsets[..o], &targets[..t], below(leap(leap(seed)), 7))
+    let rows = first(&offsets, usize::from(below(leap(seed), 7)));
+    let edges = first(&targets, usize::from(below(next(leap(seed)), 9)));
+    let vertex = usize::from(below(leap(leap(seed)), 7));
+    view_is_right(rows, edges, vertex)
 }
 
 fn random_views() -> Tally {
     let mut tally = Tally::new();
     let mut state: u64 = 12;
-    let mut round: u16 = 0;
-    while round < ROUND_COUNT {
+    for _ in 0..ROUND_COUNT {
         state = leap(state);
         tally = tally.with(random_view(state));
-        round += 1;
     }
     tally
 }
@@ -150,8 +124,8 @@ fn random_views() -> Tally {
 pub fn run(rt: &impl Print) -> io::Result<()> {
     random_rows(14)
         .and(random_rows(15))
-        .print(rt, b"rows in view")?;
-    conditions().print(rt, b"out of view")?;
-    given().print(rt, b"in view")?;
-    random_views().print(rt, b"random views")
+        .print(rt, "rows in view")?;
+    conditions().print(rt, "out of view")?;
+    given().print(rt, "in view")?;
+    random_views().print(rt, "random views")
 }

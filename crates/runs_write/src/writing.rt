@@ -1,9 +1,9 @@
 // Calls of `writer::write`, each compared in full with what it must answer and leave. The lent bytes
 // have known contents at entry, and the lists may be longer than what is lent of them.
-use testkit::files;
+use numbers::{Refused, told};
 use testkit::files::{agree, is_stamped, stamp};
 use testkit::sample::file_length;
-use testkit::words::prefix;
+use testkit::words::{first, lent};
 
 // What `stamp` puts into the bytes before a call.
 const TAG: u8 = 9;
@@ -19,18 +19,24 @@ pub struct Lengths {
 // The lists at their need.
 pub fn needs(vertices: u16, edges: u16) -> Lengths {
     Lengths {
-        offsets: vertices as usize + 1,
-        targets: edges as usize,
+        offsets: usize::from(vertices) + 1,
+        targets: usize::from(edges),
         file: file_length(vertices, edges),
     }
 }
 
 // Writes with the first places of each list.
-fn write_at(offsets: &[u16], targets: &[u16], file: &mut [u8], lengths: Lengths) -> usize {
-    let o = prefix(offsets, lengths.offsets);
-    let t = prefix(targets, lengths.targets);
-    let f = files::prefix(file, lengths.file);
-    writer::write(&offsets[..o], &targets[..t], &mut file[..f])
+fn write_at(
+    offsets: &[u16],
+    targets: &[u16],
+    file: &mut [u8],
+    lengths: Lengths,
+) -> Result<(), Refused> {
+    writer::write(
+        first(offsets, lengths.offsets),
+        first(targets, lengths.targets),
+        lent(file, lengths.file),
+    )
 }
 
 // Whether the rows are turned down with this number and no byte is changed.
@@ -43,7 +49,7 @@ pub fn refuses(
 ) -> bool {
     stamp(file, TAG);
     let answer = write_at(offsets, targets, file, lengths);
-    (answer == number) & is_stamped(file, 0, TAG)
+    (told(&answer) == number) & is_stamped(file, 0, TAG)
 }
 
 // Whether the rows are written as the first `length` bytes of `want`, and the bytes past the need
@@ -58,7 +64,7 @@ pub fn writes(
 ) -> bool {
     stamp(file, TAG);
     let answer = write_at(offsets, targets, file, lengths);
-    (answer == 0) & agree(file, want, length) & is_stamped(file, length, TAG)
+    answer.is_ok() & agree(file, want, length) & is_stamped(file, length, TAG)
 }
 
 // `writes` where the number is 0, else `refuses`.

@@ -1,14 +1,16 @@
 // A schedule (document 01: event sheet) is a list of event bytes. `decode` says what event a byte is;
 // `look_up` says it by a table that the caller lends, and the engine plays by that.
-// `schedule_number` says whether a schedule is taken. All go by one table, module `entries`.
+// `check_schedule` says whether a schedule is taken. All go by one table, module `entries`.
 #![tactic(auto)]
 
 ghost use Rattle.std.specs.Prelude.{◌≡◌, ◌≤◌, ◌<◌, get_or};
+ghost use Rattle.numbers.specs.Told.{told};
 ghost use Rattle.schedule.specs.Events.{event_of, within};
 ghost use Rattle.schedule.specs.Table.{entry_of, byte_table, Fits};
 ghost use Rattle.schedule.specs.Check.{any_stray, schedule_number};
 
 use entries::MALFORMED_KIND;
+use numbers::Refused;
 
 mod entries;
 
@@ -24,22 +26,13 @@ pub enum Event {
     Malformed,
 }
 
-// A byte as a number: a cast by itself, so that its users have none to prove.
-fn wide(byte: u8) -> usize
-    ensures value { result ≡ byte }
-    ensures upper_bound { result < 256 }
-{
-    byte as usize
-}
-
 // What a byte's entry has in a place: kind in 0, w in 1, v in 2.
-fn entry(table: &[u8; 768], byte: usize, place: usize) -> usize
+fn entry(table: &[u8; 768], byte: u8, place: usize) -> usize
     requires table_value { table.now ≡ byte_table }
-    requires byte_bound { byte < 256 }
     requires place_bound { place < 3 }
     ensures { result ≡ get_or (entry_of (event_of byte)) place 0 }
 {
-    wide(table[3 * byte + place])
+    usize::from(table[3 * usize::from(byte) + place])
 }
 
 // The event of a byte, by the table that the caller lends: a run has it built once, ahead of its
@@ -48,24 +41,15 @@ pub fn look_up(table: &[u8; 768], byte: u8) -> Event
     requires { table.now ≡ byte_table }
     ensures { result ≡ event_of byte }
 {
-    let code = wide(byte);
-    let kind = entry(table, code, 0);
-    let w = entry(table, code, 1);
-    let v = entry(table, code, 2);
-    if kind == 0 {
-        return Event::Work { worker: w };
-    }
-    if kind < 3 {
-        return if kind == 1 {
-            Event::Split { taker: w, giver: v }
-        } else {
-            Event::Unite { giver: w, taker: v }
-        };
-    }
-    if kind == 3 {
-        Event::Close
-    } else {
-        Event::Malformed
+    let kind = entry(table, byte, 0);
+    let w = entry(table, byte, 1);
+    let v = entry(table, byte, 2);
+    match kind {
+        0 => Event::Work { worker: w },
+        1 => Event::Split { taker: w, giver: v },
+        2 => Event::Unite { giver: w, taker: v },
+        3 => Event::Close,
+        _ => Event::Malformed,
     }
 }
 
@@ -79,9 +63,8 @@ pub fn decode(byte: u8) -> Event
 
 // Whether a byte's event is one of document 01's and all its workers are there. It makes every test
 // and branches on none.
-fn byte_fits(table: &[u8; 768], byte: usize, workers: usize) -> bool
+fn byte_fits(table: &[u8; 768], byte: u8, workers: usize) -> bool
     requires table_value { table.now ≡ byte_table }
-    requires byte_bound { byte < 256 }
     requires le_workers { 1 ≤ workers }
     ensures { result ≡ within workers (event_of byte) }
 {
@@ -99,10 +82,8 @@ fn bytes_that_fit(workers: usize) -> [bool; 256]
 {
     let table = byte_table();
     let mut fits = [false; 256];
-    let mut byte = 0;
-    while byte < 256 {
-        fits[byte] = byte_fits(&table, byte, workers);
-        byte += 1;
+    for byte in 0..=255 {
+        fits[usize::from(byte)] = byte_fits(&table, byte, workers);
     }
     fits
 }
@@ -115,25 +96,23 @@ fn any_stray(bytes: &[u8], workers: usize) -> bool
 {
     let fits = bytes_that_fit(workers);
     let mut stray = false;
-    let mut i = 0;
-    while i < bytes.len() {
-        stray |= !fits[wide(bytes[i])];
-        i += 1;
+    for byte in bytes {
+        stray |= !fits[usize::from(*byte)];
     }
     stray
 }
 
-// 8 or 9, or 0 for a schedule that the search takes.
-pub fn schedule_number(bytes: &[u8], workers: usize) -> usize
-    ensures { result ≡ schedule_number bytes.now workers }
+// 8 or 9; what passes is a schedule that the search takes.
+pub fn check_schedule(bytes: &[u8], workers: usize) -> Result<(), Refused>
+    ensures { told result ≡ schedule_number bytes.now workers }
 {
     let many = numbers::MAX_WORKERS < workers;
     if workers == 0 || many {
-        return numbers::BAD_WORKERS;
+        return Err(Refused::BadWorkers);
     }
     let long = numbers::MAX_EVENTS < bytes.len();
     if long || any_stray(bytes, workers) {
-        return numbers::BAD_SCHEDULE;
+        return Err(Refused::BadSchedule);
     }
-    numbers::SUCCESS
+    Ok(())
 }

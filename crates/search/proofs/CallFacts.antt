@@ -12,16 +12,15 @@ use Rattle.numbers.proofs.First.{first_append, first_append_stop, first_each}
 use Rattle.lists.specs.Lists.{overlay, elem}
 use Rattle.graph.specs.Graph.{rows_of}
 use Rattle.graph.specs.File.{edge_count}
-use Rattle.graph.specs.Read.{header_refusals, scan_refusals, chain_refusals}
+use Rattle.graph.specs.Read.{ReadAnswer, header_refusals, scan_refusals, chain_refusals}
 use Rattle.graph.specs.Steps.{Unchained}
-use Rattle.graph.specs.declared.ReadAnswer.{ReadAnswer}
 use Rattle.graph.proofs.UnchainFacts.{marks_clear, starts_kept, ends_kept, starts_written, ends_written, rows_graph, rows_ground, starts_there, ends_there}
 use Rattle.schedule.specs.Check.{schedule_refusals}
 use Rattle.schedule.proofs.Schedules.{schedule_passed}
 use Rattle.model.specs.Play.{play}
 use Rattle.model.specs.Call.{Lent, Lengths, lengths_of, early_refusals, Outcome, node_places, run_of, input_refusals, search_refusals, search_number, plays, outcome_of_search}
 use Rattle.model.proofs.Calls.{early_positive, call_parts, call_accepted, call_number, call_played, call_refused}
-use Rattle.engine.specs.declared.Answer.{Answer}
+use Rattle.model.specs.Call.{Answer}
 use Rattle.search.specs.Played.{refused_with, Playable, PlayedOut}
 use Rattle.search.specs.Input.{early_answer}
 use Rattle.search.specs.Promise.{lent_lists, search_exit}
@@ -92,15 +91,15 @@ module _ (file : List ℕ) (source P : ℕ) (schedule : List ℕ) (lent : Lent) 
 
   module _ {head : ReadAnswer} (judged : head ≡ early_answer file source P schedule (lengths_of lent)) where
     -- a refusal before the chains are walked
-    pub search_early : {r : Answer} → (head.number ≡ 0 → ⊥) → r ≡ refused_with head.number → search_exit r lent ≡ outcome_of_search file source P schedule lent
-    search_early h e =
+    pub search_early : (head.number ≡ 0 → ⊥) → search_exit (refused_with head.number) lent ≡ outcome_of_search file source P schedule lent
+    search_early h =
         let k = first early in
         let same : head.number ≡ k = early_number file source P schedule (lengths_of lent) judged in
         let found : k ≡ 0 → ⊥ = λ z. h (same ∙ z) in
         let stopped : first (early ++ chain_refusals file) ≡ k = first_append_stop early (chain_refusals file) (omega arith) in
         let none = early_plays file source P schedule (lengths_of lent) found in
         let all : number ≡ k = number_parts ∙ first_append_stop (early ++ chain_refusals file) last (omega arith) ∙ stopped in
-        ap (λ (x : Answer). search_exit x lent) (e ∙ ap refused_with same) ∙ refused_outcome false all none.0 none.1 refl
+        ap (λ (x : Answer). search_exit x lent) (ap refused_with same) ∙ refused_outcome false all none.0 none.1 refl
 
     module _ (passed : head.number ≡ 0) where
       -- what the judgement tells
@@ -117,17 +116,16 @@ module _ (file : List ℕ) (source P : ℕ) (schedule : List ℕ) (lent : Lent) 
       module _ {k : ℕ} {offsets' targets' marks' : List ℕ}
           (walked : Unchained file head.edges k lent.offsets lent.targets lent.marks offsets' targets' marks') where
         -- a refusal of the chains
-        pub search_chains : {r : Answer} → (k ≡ 0 → ⊥) → r ≡ refused_with k
-            → search_exit r (lent_lists offsets' targets' marks' lent.distances lent.parents lent.histogram lent.left lent.right lent.values)
+        pub search_chains : (k ≡ 0 → ⊥) → search_exit (refused_with k) (lent_lists offsets' targets' marks' lent.distances lent.parents lent.histogram lent.left lent.right lent.values)
             ≡ outcome_of_search file source P schedule lent
-        search_chains h e =
+        search_chains h =
             let same = walked.judged in
             let found : first (chain_refusals file) ≡ 0 → ⊥ = λ z. h (same ∙ z) in
             let none = chain_plays file found in
             let all : number ≡ first (chain_refusals file) = number_later ∙ first_append_stop (chain_refusals file) last (omega arith) in
             let starts = starts_kept told.scanned walked h in
             let ends = ends_kept told.scanned walked h in
-            (λ i. search_exit ((e ∙ ap refused_with same) i)
+            (λ i. search_exit (refused_with (same i))
             (lent_lists (starts i) (ends i) marks' lent.distances lent.parents lent.histogram lent.left lent.right lent.values))
             ∙ refused_outcome true all none.0 none.1 (marks_clear told.scanned walked)
 

@@ -11,9 +11,8 @@ use Rattle.numbers.specs.Refusals.{Refusal, ◌gives◌, first}
 use Rattle.numbers.proofs.First.{first_stop, first_skip, first_passed, first_append, first_append_stop, first_split}
 use Rattle.lists.proofs.Or.{or_none}
 use Rattle.graph.specs.File.{vertex_count, edge_count}
-use Rattle.graph.specs.Read.{header_refusals, scan_refusals, rows_short, refusal_answer}
+use Rattle.graph.specs.Read.{ReadAnswer, header_refusals, scan_refusals, rows_short, refusal_answer}
 use Rattle.graph.specs.Steps.{file_refusals, file_answer, Scanned}
-use Rattle.graph.specs.declared.ReadAnswer.{ReadAnswer}
 use Rattle.graph.proofs.ReadFacts.{file_scanned, long_enough}
 use Rattle.graph.proofs.EarlyFacts as early
 use Rattle.schedule.specs.Check.{schedule_refusals, schedule_number}
@@ -127,14 +126,14 @@ module _ (file : List ℕ) (source P : ℕ) (schedule : List ℕ) (lengths : Len
 
     module _ (whole : head.number ≡ 0) where
       -- by one of the others
-      refuses : {k : ℕ} {r : ReadAnswer} → first others ≡ k → (k ≡ 0 → ⊥) → r ≡ refusal_answer k → r ≡ early_answer file source P schedule lengths
-      refuses f h e = early.by_others file others answered whole f h e ∙ answers
+      refuses : {k : ℕ} → first others ≡ k → (k ≡ 0 → ⊥) → refusal_answer k ≡ early_answer file source P schedule lengths
+      refuses f h = early.by_others file others answered whole f h ∙ answers
 
       -- 7
-      pub judged_source : {r : ReadAnswer} → head.vertices ≤ source → r ≡ refusal_answer bad_source → r ≡ early_answer file source P schedule lengths
-      judged_source h e =
+      pub judged_source : head.vertices ≤ source → refusal_answer bad_source ≡ early_answer file source P schedule lengths
+      judged_source h =
           let far = le-leb (vertex_count file) source (omega (arith, (file_scanned file answered whole).sized.vertices)) in
-          refuses (first_stop (leb (vertex_count file) source) bad_source later far) (λ z. absurd (omega arith)) e
+          refuses (first_stop (leb (vertex_count file) source) bad_source later far) (λ z. absurd (omega arith))
 
       module _ (near : source < head.vertices) {formed : ℕ} (told : formed ≡ schedule_number schedule P) where
         -- past 7
@@ -144,11 +143,11 @@ module _ (file : List ℕ) (source P : ℕ) (schedule : List ℕ) (lengths : Len
             (lt-leb (vertex_count file) source (omega (arith, (file_scanned file answered whole).sized.vertices)))
 
         -- 8 or 9
-        pub judged_schedule : {r : ReadAnswer} → (formed ≡ 0 → ⊥) → r ≡ refusal_answer formed → r ≡ early_answer file source P schedule lengths
+        pub judged_schedule : (formed ≡ 0 → ⊥) → refusal_answer formed ≡ early_answer file source P schedule lengths
         unfolding schedule_number
-        judged_schedule h e =
+        judged_schedule h =
             let found : first (schedule_refusals schedule P) ≡ 0 → ⊥ = λ z. h (told ∙ z) in
-            refuses (number_schedule ∙ first_append_stop (schedule_refusals schedule P) last (omega arith) ∙ sym told) h e
+            refuses (number_schedule ∙ first_append_stop (schedule_refusals schedule P) last (omega arith) ∙ sym told) h
 
         module _ (well : formed ≡ 0) {short : Bool} (seen : short ≡ lengths_short head.vertices head.edges P lengths) where
           -- past 9
@@ -161,8 +160,8 @@ module _ (file : List ℕ) (source P : ℕ) (schedule : List ℕ) (lengths : Len
           file_short e = rw (← (file_scanned file answered whole).sized.vertices, ← (file_scanned file answered whole).sized.edges) (sym seen ∙ e)
 
           -- 20
-          pub judged_short : {r : ReadAnswer} → short ≡ true → r ≡ refusal_answer short_list → r ≡ early_answer file source P schedule lengths
-          judged_short h e = refuses (number_short ∙ first_stop _ short_list [] (file_short h)) (λ z. absurd (omega arith)) e
+          pub judged_short : short ≡ true → refusal_answer short_list ≡ early_answer file source P schedule lengths
+          judged_short h = refuses (number_short ∙ first_stop _ short_list [] (file_short h)) (λ z. absurd (omega arith))
 
           -- or nothing is refused
           pub judged_whole : short ≡ false → head ≡ early_answer file source P schedule lengths

@@ -17,7 +17,7 @@ use Rattle.model.specs.Histogram.{recount, counts_at, Counts}
 use Rattle.model.specs.Demand.{Demand, Fitting}
 use Rattle.model.specs.Call.{Lent, Outcome, run_of, search_number, plays, outcome_of_search}
 use Rattle.model.proofs.Calls.{call_passed, call_sizes, call_demand, call_number, call_rounds, call_played, call_refused, call_effective}
-use Rattle.engine.specs.declared.Answer.{Answer}
+use Rattle.model.specs.Call.{Answer}
 use Rattle.model.specs.Words.{option_of, labels_of, labels_in}
 use Rattle.search.specs.Promise.{search_exit, Kept}
 use Rattle.model.proofs.WordFacts.{laid_back}

@@ -10,7 +10,7 @@ use Rattle.lists.proofs.Overlay.{part_laid, part_cleared}
 use Rattle.graph.specs.Graph.{rows_of}
 use Rattle.model.specs.Play.{play}
 use Rattle.model.specs.Call.{node_places}
-use Rattle.engine.specs.declared.Answer.{Answer}
+use Rattle.model.specs.Call.{Answer}
 use Rattle.engine.specs.Runs.{Runnable, Ran}
 use Rattle.search.specs.Played.{Playable, PlayedOut}
 

@@ -2,8 +2,7 @@
 use Rattle.std.specs.Prelude.{ℕ, List}
 use Rattle.numbers.specs.Refusals.{first}
 use Rattle.graph.specs.File.{vertex_count, edge_count}
-use Rattle.graph.specs.Read.{answer_with}
-use Rattle.graph.specs.declared.ReadAnswer.{ReadAnswer}
+use Rattle.graph.specs.Read.{ReadAnswer, answer_with}
 use Rattle.model.specs.Call as call
 use Rattle.search.specs.declared.Lengths.{Lengths}
 

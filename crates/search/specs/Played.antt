@@ -1,5 +1,6 @@
 -- What `play` takes for granted and promises: the run on the first places of longer lists, and the node lists
--- cleared. A prime marks what stands there afterwards. Only the contracts of inner steps cite these.
+-- cleared. A prime marks what stands there afterwards. Only the contracts of inner steps cite these, but for
+-- `refused_with`.
 use Rattle.std.specs.Prelude.{◌≡◌, List, map, ℕ, ◌+◌, ◌≤◌, length, take, replicate}
 use Rattle.numbers.specs.Numbers.{max_events}
 use Rattle.lists.specs.Lists.{overlay}
@@ -10,7 +11,7 @@ use Rattle.model.specs.Call.{node_places}
 use Rattle.model.specs.Words.{word_of}
 use Rattle.model.specs.Histogram.{recount}
 use Rattle.model.specs.Demand.{Accepted}
-use Rattle.engine.specs.declared.Answer.{Answer}
+use Rattle.model.specs.Call.{Answer}
 use Rattle.engine.specs.Runs.{answer_of, Told}
 
 -- "A refusal other than 21 gives zeros beside its number."

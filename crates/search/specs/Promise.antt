@@ -14,7 +14,7 @@ use Rattle.model.specs.Demand.{Demand, Finisher}
 use Rattle.model.specs.Call as call
 use Rattle.model.specs.Words.{labels_in}
 use Rattle.model.specs.Histogram.{counts_at, Counts}
-use Rattle.engine.specs.declared.Answer.{Answer}
+use Rattle.model.specs.Call.{Answer}
 
 -- the lists that the caller lends
 abbrev pub lent_lists : List ℕ → List ℕ → List ℕ → List ℕ → List ℕ → List ℕ → List ℕ → List ℕ → List ℕ → call.Lent
@@ -32,10 +32,7 @@ lent_lists offsets targets marks distances parents histogram left right values =
 
 -- what the call answered, and the lists at exit
 abbrev pub search_exit : Answer → call.Lent → call.Outcome
-search_exit r after = record {
-  answer = record { number = r.number; used = r.used; effective = r.effective; layer = r.layer };
-  lent = after;
-}
+search_exit r after = record { answer = r; lent = after }
 
 module _ (file : List ℕ) (source P : ℕ) (schedule : List ℕ) (lent : call.Lent) where
   -- demand 3 of a call that answered so and left the lists so

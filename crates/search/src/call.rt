@@ -1,39 +1,37 @@
 // The outside call: the tests on the input in document 01's order, the rows, the run, and the node
 // lists cleared.
-ghost use Rattle.std.specs.Prelude.{◌≡◌, ◌+◌, ◌≤◌, take};
-ghost use Rattle.numbers.specs.Numbers.{max_vertices, max_workers};
+ghost use Rattle.std.specs.Prelude.{◌≡◌, ◌+◌, ◌≤◌, take, IfOk};
+ghost use Rattle.numbers.specs.Numbers.{max_workers};
+ghost use Rattle.graph.specs.Answers.{answer_of as graph·answer_of};
 ghost use Rattle.graph.specs.Graph.{rows_of};
 ghost use Rattle.model.specs.Call.{node_places, lengths_short, outcome_of_search};
 ghost use Rattle.model.specs.Play as model;
-ghost use Rattle.search.specs.Played.{refused_with, Playable, PlayedOut};
+ghost use Rattle.engine.specs.Runs.{answer_in};
+ghost use Rattle.search.specs.Answers.{answer_of};
+ghost use Rattle.search.specs.Played.{Playable, PlayedOut};
 ghost use Rattle.search.specs.Input.{lengths_in, early_answer};
 ghost use Rattle.search.specs.Promise.{lent_lists, search_exit, Kept};
 
 use crate::Lengths;
 use engine::Answer;
 use engine::run::run;
-use graph::{ReadAnswer, steps};
-
-// Zeros beside a refusal's number.
-fn refuse(number: usize) -> Answer
-    ensures { result ≡ refused_with number }
-{
-    Answer {
-        number,
-        used: 0,
-        effective: 0,
-        layer: 0,
-    }
-}
+use graph::{Survey, steps};
+use numbers::Refused;
 
 // 20: whether a lent list is shorter than its need.
-fn lengths_short(n: usize, m: usize, workers: usize, lengths: Lengths) -> bool
-    requires n_le_max_vertices { n ≤ max_vertices }
-    requires workers_le_max_workers { workers ≤ max_workers }
-    ensures { result ≡ lengths_short n m workers (lengths_in lengths) }
+fn lengths_short(survey: &Survey<'_>, workers: usize, lengths: Lengths) -> bool
+    requires { workers ≤ max_workers }
+    ensures { result ≡ lengths_short survey.now.vertices survey.now.edges workers (lengths_in lengths) }
 {
+    let n = survey.vertices;
     let places = workers * n + 1;
-    if steps::rows_short(n, m, lengths.offsets, lengths.targets, lengths.marks) {
+    if steps::rows_short(
+        n,
+        survey.edges,
+        lengths.offsets,
+        lengths.targets,
+        lengths.marks,
+    ) {
         return true;
     }
     if lengths.distances < n || lengths.parents < n {
@@ -48,34 +46,40 @@ fn lengths_short(n: usize, m: usize, workers: usize, lengths: Lengths) -> bool
     lengths.values < places
 }
 
-// 1 (under 4), 2, 1 (length), 4, 3, 7, 8, 9, 20; with 0, n and m.
-fn judge(
-    file: &[u8],
+// 1 (under 4), 2, 1 (length), 4, 3, 7, 8, 9, 20; what passes them is a survey of this file.
+fn judge<'a>(
+    file: &'a [u8],
     source: usize,
     workers: usize,
     schedule: &[u8],
     lengths: Lengths,
-) -> ReadAnswer
-    ensures { result ≡ early_answer file.now source workers schedule.now (lengths_in lengths) }
+) -> Result<Survey<'a>, Refused>
+    ensures value { graph·answer_of result ≡ early_answer file.now source workers schedule.now (lengths_in lengths) }
+    ensures same_file { IfOk result (λ survey. survey.file.now ≡ file.now) }
 {
-    let answer = steps::examine(file);
-    if answer.number != numbers::SUCCESS {
-        return answer;
+    let survey = steps::examine(file)?;
+    if survey.vertices <= source {
+        return Err(Refused::BadSource);
     }
-    if answer.vertices <= source {
-        return steps::refused(numbers::BAD_SOURCE);
+    schedule::check_schedule(schedule, workers)?;
+    if lengths_short(&survey, workers, lengths) {
+        return Err(Refused::ShortList);
     }
-    let formed = schedule::schedule_number(schedule, workers);
-    if formed != numbers::SUCCESS {
-        return steps::refused(formed);
-    }
-    if lengths_short(answer.vertices, answer.edges, workers, lengths) {
-        return steps::refused(numbers::SHORT_LIST);
-    }
-    answer
+    Ok(survey)
 }
 
-// Plays the schedule on the parts of the lists that it needs, then clears the nodes' parts.
+// The number of an answer.
+pub fn number(answer: &Result<Answer, Refused>) -> usize
+    ensures { result ≡ (answer_of answer.now).number }
+{
+    match answer {
+        Ok(run) => run.ending.number(),
+        Err(refused) => refused.number(),
+    }
+}
+
+// Plays the schedule on the parts of the lists that it needs, then clears the nodes' parts. The cast of
+// the source is proved to fit: `try_from` and `unwrap` ask for the same.
 fn play(
     n: usize,
     m: usize,
@@ -101,7 +105,7 @@ fn play(
         left.old right.old values.old
         distances.new parents.new histogram.new
         left.new right.new values.new
-        result }
+        (answer_in result) }
 {
     let places = workers * n + 1;
     let offset_count = n + 1;
@@ -123,7 +127,8 @@ fn play(
 }
 
 // The search. Offsets, targets and marks are as the reader's; distances and parents get the labels,
-// histogram how many vertices stand at each distance; left, right and values are working room.
+// histogram how many vertices stand at each distance; left, right and values are working room. The lists
+// are no struct: lent in one, each would need a clause more, that it is the same list and as long.
 pub fn search(
     file: &[u8],
     source: usize,
@@ -138,8 +143,8 @@ pub fn search(
     left: &mut [u16],
     right: &mut [u16],
     values: &mut [u16],
-) -> Answer
-    ensures values_after { search_exit result (lent_lists offsets.new targets.new marks.new distances.new
+) -> Result<Answer, Refused>
+    ensures values_after { search_exit (answer_of result) (lent_lists offsets.new targets.new marks.new distances.new
         parents.new histogram.new left.new right.new values.new)
         ≡ outcome_of_search file.now source workers schedule.now
         (lent_lists offsets.old targets.old marks.old distances.old
@@ -147,7 +152,7 @@ pub fn search(
     ensures kept { Kept file.now source workers schedule.now
         (lent_lists offsets.old targets.old marks.old distances.old
         parents.old histogram.old left.old right.old values.old)
-        result
+        (answer_of result)
         (lent_lists offsets.new targets.new marks.new distances.new
         parents.new histogram.new left.new right.new values.new) }
 {
@@ -162,18 +167,12 @@ pub fn search(
         right: right.len(),
         values: values.len(),
     };
-    let judged = judge(file, source, workers, schedule, lengths);
-    if judged.number != numbers::SUCCESS {
-        return refuse(judged.number);
-    }
-    let n = judged.vertices;
-    let m = judged.edges;
-    let chained = steps::unchain(file, n, m, offsets, targets, marks);
-    if chained != numbers::SUCCESS {
-        return refuse(chained);
-    }
-    play(
+    let survey = judge(file, source, workers, schedule, lengths)?;
+    survey.unchain(offsets, targets, marks)?;
+    let n = survey.vertices;
+    let m = survey.edges;
+    Ok(play(
         n, m, source, workers, schedule, offsets, targets, distances, parents, histogram, left,
         right, values,
-    )
+    ))
 }

@@ -4,8 +4,8 @@
 
 mod call;
 
-pub use call::search;
-pub use engine::Answer;
+pub use call::{number, search};
+pub use engine::{Answer, Ending};
 
 // The lengths of the lent lists.
 #[derive(Clone, Copy)]

@@ -21,7 +21,7 @@ use Rattle.model.specs.Paths.{Labels, RightResult}
 use Rattle.model.specs.Words.{option_of, labels_of, labels_in}
 use Rattle.model.specs.Call as call
 use Rattle.model.proofs.Calls.{call_passed, call_parts, call_sizes, call_played}
-use Rattle.engine.specs.declared.Answer.{Answer}
+use Rattle.model.specs.Call.{Answer}
 use Rattle.search.specs.Promise.{search_exit}
 use Rattle.search.proofs.KeptFacts.{call_keeps, played, success_plays}
 use Rattle.verify.specs.Check.{CheckLent, CheckOutcome, lent_after_check, check_number, outcome_of_check, judges}

@@ -11,8 +11,8 @@ pub const SCHEDULE: [u8; 26] = [
 
 // The last digits of the first four numbers.
 fn digits(list: &[u16]) -> u64 {
-    let first = (at(list, 0) % 10) as u64 * 1000 + (at(list, 1) % 10) as u64 * 100;
-    first + (at(list, 2) % 10) as u64 * 10 + (at(list, 3) % 10) as u64
+    let digit = |place: u16| u64::from(at(list, place) % 10);
+    digit(0) * 1000 + digit(1) * 100 + digit(2) * 10 + digit(3)
 }
 
 // The last digits of the first four distances, then of the first four parents, then of the first four

@@ -26,11 +26,9 @@ fn target(edge: u16) -> u16 {
 
 // The edges, in the order of their sources.
 fn make_edges(sources: &mut [u16], row_targets: &mut [u16]) {
-    let mut edge: u16 = 0;
-    while edge < EDGES {
+    for edge in 0..EDGES {
         put(sources, edge, edge / 3);
         put(row_targets, edge, target(edge));
-        edge += 1;
     }
 }
 
@@ -41,10 +39,8 @@ fn start(vertex: u16) -> u16 {
 
 // Where every row starts, and the end of the last.
 fn make_rows(rows: &mut [u16]) {
-    let mut vertex: u16 = 0;
-    while vertex <= VERTICES {
+    for vertex in 0..=VERTICES {
         put(rows, vertex, start(vertex));
-        vertex += 1;
     }
 }
 
@@ -69,9 +65,9 @@ pub fn plan_of(case: u16) -> Plan {
         edges: EDGES,
         source: 0,
         workers: round % 7 + 2,
-        length: (case % CUTS) as u32,
+        length: u32::from(case % CUTS),
         mixture: round % 4 + 1,
-        seed: leap(round as u64 + 2000),
+        seed: leap(u64::from(round) + 2000),
     }
 }
 

@@ -1,6 +1,8 @@
 // Cases A to I of document 01: their inputs and answers.
 use crate::requests::{Request, Seen, needs};
 use testkit::files::{put, put_words};
+use testkit::words;
+use testkit::words::row_of;
 
 pub const CASES: u16 = 9;
 
@@ -19,19 +21,13 @@ const POINTS: [[u16; 12]; 7] = [
 
 // A place of the table; 0 outside it.
 pub fn cell(row: u16, column: usize) -> u16 {
-    let i = row as usize;
-    if i < 7 {
-        if column < 12 {
-            return POINTS[i][column];
-        }
-    }
-    0
+    words::cell(&POINTS, row, column)
 }
 
 // Whether the answer is a number, as many events used as effective, and a layer.
 pub fn is_answer(seen: Seen, number: u16, events: u16, layer: usize) -> bool {
-    let used = (seen.used == events as usize) & (seen.effective == events as usize);
-    (seen.number == number as usize) & used & (seen.layer == layer)
+    let used = (seen.used == usize::from(events)) & (seen.effective == usize::from(events));
+    (seen.number == usize::from(number)) & used & (seen.layer == layer)
 }
 
 // A's request, and B's.
@@ -55,16 +51,7 @@ pub fn make_square(schedule: &mut [u8], is_swapped: bool) {
 
 // The file of a case: n and m, the head, the record.
 pub fn make_file(file: &mut [u8], row: u16) {
-    put_words(
-        file,
-        &[
-            cell(row, 1),
-            cell(row, 2),
-            cell(row, 3),
-            cell(row, 4),
-            cell(row, 5),
-        ],
-    );
+    put_words(file, &row_of(&POINTS, row)[1..6]);
 }
 
 // The lists are at their need.
@@ -76,8 +63,8 @@ pub fn point(row: u16) -> Request {
         workers,
         vertices: 1,
         edges,
-        file: cell(row, 0) as usize,
-        schedule: cell(row, 9) as usize,
+        file: usize::from(cell(row, 0)),
+        schedule: usize::from(cell(row, 9)),
         lengths: needs(1, edges, workers, 0),
     }
 }

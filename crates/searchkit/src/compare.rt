@@ -2,6 +2,8 @@
 // of its own at all places at entry.
 use crate::counts::places;
 use crate::requests::{Request, Seen, is_played};
+use testkit::contents::is_filled;
+pub use testkit::reading::cleared;
 use testkit::words::{agree, holds};
 
 // What the lists hold before a call, at every place.
@@ -23,18 +25,6 @@ pub const RIGHT_TAG: u16 = 17000;
 
 pub const VALUES_TAG: u16 = 5;
 
-// Whether the list holds the value at every place from `from` on.
-fn is_filled(list: &[u16], from: usize, value: u16) -> bool {
-    let mut i = from;
-    while i < list.len() {
-        if list[i] != value {
-            return false;
-        }
-        i += 1;
-    }
-    true
-}
-
 // Whether the first n + 1 offsets and m targets are these, the first m marks are 0, and what lies
 // past them is as it was.
 pub fn are_rows(
@@ -46,7 +36,7 @@ pub fn are_rows(
     n: usize,
     m: usize,
 ) -> bool {
-    let starts = std::num::wrapping_add_usize(n, 1);
+    let starts = n.wrapping_add(1);
     let first = agree(offsets, rows, starts) & agree(targets, row_targets, m) & holds(marks, m, 0);
     let rest = is_filled(offsets, starts, OFFSETS_TAG) & is_filled(targets, m, TARGETS_TAG);
     first & rest & is_filled(marks, m, MARKS_TAG)
@@ -54,7 +44,7 @@ pub fn are_rows(
 
 // Whether distances, parents and counts are as they were from a place on.
 pub fn are_labels_kept(distances: &[u16], parents: &[u16], histogram: &[u16], from: u16) -> bool {
-    let place = from as usize;
+    let place = usize::from(from);
     let reached = is_filled(distances, place, DISTANCES_TAG);
     let named = is_filled(parents, place, PARENTS_TAG);
     reached & named & is_filled(histogram, place, HISTOGRAM_TAG)
@@ -71,15 +61,6 @@ pub fn are_nodes_cleared(left: &[u16], right: &[u16], values: &[u16], count: usi
 pub fn are_rows_kept(offsets: &[u16], targets: &[u16], marks: &[u16], zeros: usize) -> bool {
     let rows = is_filled(offsets, 0, OFFSETS_TAG) & is_filled(targets, 0, TARGETS_TAG);
     rows & holds(marks, zeros, 0) & is_filled(marks, zeros, MARKS_TAG)
-}
-
-// How many marks are 0 after a refusal: with 5 and 6 the first m.
-pub fn cleared(number: usize, edges: u16) -> usize {
-    if (number == 5) | (number == 6) {
-        edges as usize
-    } else {
-        0
-    }
 }
 
 // How many of the first labels and counts may have changed.
@@ -112,7 +93,7 @@ pub fn is_left(
     row_targets: &[u16],
 ) -> bool {
     if is_played(seen.number) {
-        let n = request.vertices as usize;
+        let n = usize::from(request.vertices);
         return are_rows(
             offsets,
             targets,
@@ -120,7 +101,7 @@ pub fn is_left(
             rows,
             row_targets,
             n,
-            request.edges as usize,
+            usize::from(request.edges),
         );
     }
     let zeros = cleared(seen.number, request.edges);

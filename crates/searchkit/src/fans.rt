@@ -4,7 +4,7 @@
 use crate::base::SCHEDULE;
 use crate::bench::is_answer;
 use crate::counts::times;
-use crate::events::{CLOSE, event};
+use crate::events::{CLOSE, Kind, event};
 use crate::requests::{Report, Request, needs};
 use testkit::files;
 use testkit::sample::{after, encode_in_order, file_length};
@@ -28,20 +28,18 @@ fn width_of(case: u16) -> u16 {
 
 // So many for each vertex of the row, and some more.
 fn each(width: u16, count: u16, more: u16) -> u16 {
-    (times(count, width as usize) % 1000) as u16 + more % 10
+    (times(count, usize::from(width)) % 1000) as u16 + more % 10
 }
 
 // The edges, and the rows up to the last vertex of the row.
 fn make_edges(width: u16, sources: &mut [u16], row_targets: &mut [u16], rows: &mut [u16]) {
-    let mut edge: u16 = 0;
-    while edge < width {
+    for edge in 0..width {
         let vertex = after(edge);
-        let second = std::num::wrapping_add_u16(width, edge);
+        let second = width.wrapping_add(edge);
         put(row_targets, edge, vertex);
         put(rows, vertex, second);
         put(sources, second, vertex);
         put(row_targets, second, after(width));
-        edge += 1;
     }
 }
 
@@ -72,12 +70,10 @@ fn giver(worker: u16) -> u16 {
     if worker < 4 { worker - 2 } else { worker - 4 }
 }
 
-// The worker whose turn it is.
+// The worker whose turn it is; worker 0 where there is none.
 fn turn(width: u16, place: u16) -> u8 {
-    if width == 0 {
-        return WORK;
-    }
-    event(0, std::num::wrapping_sub_u16(place, 1) % width, 0)
+    let worker = place.wrapping_sub(1).checked_rem(width).unwrap_or(0);
+    event(Kind::Work, worker, 0)
 }
 
 // A close ends the source's layer, the row's, and the last vertex's.
@@ -99,7 +95,7 @@ fn byte(width: u16, place: u16) -> u8 {
     }
     if place <= each(width, 5, 0) {
         let worker = place - row;
-        return event(1, worker, giver(worker));
+        return event(Kind::Split, worker, giver(worker));
     }
     if place <= each(width, 10, 0) {
         return turn(width, place);
@@ -109,10 +105,8 @@ fn byte(width: u16, place: u16) -> u8 {
 
 // The bytes of a fan's schedule.
 fn make_bytes(width: u16, schedule: &mut [u8]) {
-    let mut place: u16 = 0;
-    while place < LENGTHS {
-        files::put(schedule, place as usize, byte(width, place));
-        place += 1;
+    for (x, place) in schedule.iter_mut().zip(0..LENGTHS) {
+        *x = byte(width, place);
     }
 }
 
@@ -135,14 +129,9 @@ pub fn request_of(case: u16) -> Request {
         vertices,
         edges,
         file: file_length(vertices, edges),
-        schedule: (case % LENGTHS) as usize,
+        schedule: usize::from(case % LENGTHS),
         lengths: needs(vertices, edges, workers, case % 4),
     }
-}
-
-// The smaller number.
-fn least(a: u16, b: u16) -> u16 {
-    if a < b { a } else { b }
 }
 
 // How many events finish a fan's search. All are effective.
@@ -171,15 +160,15 @@ fn layer(width: u16, used: u16) -> usize {
 // event 3 and with each fourth after it; the last vertex once, from its first mark on, whoever marks it
 // again.
 fn counts(width: u16, used: u16) -> u64 {
-    let row = least(after(used) / 4, width) % 10;
+    let row = (after(used) / 4).min(width) % 10;
     let last: u16 = if used < each(width, 7, 2) { 0 } else { 1 };
-    1000 + row as u64 * 100 + (last % 10) as u64 * 10
+    1000 + u64::from(row) * 100 + u64::from(last % 10) * 10
 }
 
 // Whether a case answered what it must, and the counts are as they must be.
 pub fn is_right(case: u16, report: Report) -> bool {
     let width = width_of(case);
-    let used = least(case % LENGTHS, events(width));
+    let used = (case % LENGTHS).min(events(width));
     let answered = is_answer(report.seen, number(case), used, layer(width, used));
     report.right & answered & (report.digest % 10000 == counts(width, used))
 }

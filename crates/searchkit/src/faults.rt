@@ -8,12 +8,53 @@ use testkit::files::{put, put_word, put_words};
 
 pub const COMBINATIONS: u16 = 8192;
 
+// The faults.
+const UNDER_4: u16 = 1;
+
+const NO_VERTEX: u16 = 2;
+
+const SHORT_FILE: u16 = 4;
+
+const LARGE_HEAD: u16 = 8;
+
+const LARGE_TARGET: u16 = 16;
+
+const LARGE_SOURCE: u16 = 32;
+
+const MANY_WORKERS: u16 = 64;
+
+const BAD_BYTE: u16 = 128;
+
+const SHORT_VALUES: u16 = 256;
+
+const CYCLE: u16 = 512;
+
+const NO_HEAD: u16 = 1024;
+
+const SHORT_SCHEDULE: u16 = 2048;
+
+const SHORT_COUNTS: u16 = 4096;
+
+// The faults and their numbers, in the order of document 01.
+const NUMBERS: [(u16, u16); 13] = [
+    (UNDER_4, 1),
+    (NO_VERTEX, 2),
+    (SHORT_FILE, 1),
+    (LARGE_HEAD, 4),
+    (LARGE_TARGET, 3),
+    (LARGE_SOURCE, 7),
+    (MANY_WORKERS, 8),
+    (BAD_BYTE, 9),
+    (SHORT_VALUES, 20),
+    (SHORT_COUNTS, 20),
+    (CYCLE, 5),
+    (NO_HEAD, 6),
+    (SHORT_SCHEDULE, 21),
+];
+
 // Whether the fault is there.
-pub fn has(combination: u16, power: u16) -> bool {
-    if power == 0 {
-        return false;
-    }
-    combination / power % 2 == 1
+pub fn has(combination: u16, fault: u16) -> bool {
+    combination & fault != 0
 }
 
 // The first word where the fault is there, else the second.
@@ -21,88 +62,73 @@ fn either(is_there: bool, faulty: u16, good: u16) -> u16 {
     if is_there { faulty } else { good }
 }
 
-// The number of the first fault, in the order of document 01.
+// The number of the first fault, in the order of document 01; 0 where there is none.
 pub fn expected(combination: u16) -> u16 {
-    let late = either(
-        has(combination, 1024),
-        6,
-        either(has(combination, 2048), 21, 0),
-    );
-    let chains = either(
-        has(combination, 256) | has(combination, 4096),
-        20,
-        either(has(combination, 512), 5, late),
-    );
-    let events = either(
-        has(combination, 64),
-        8,
-        either(has(combination, 128), 9, chains),
-    );
-    let targets = either(
-        has(combination, 16),
-        3,
-        either(has(combination, 32), 7, events),
-    );
-    let records = either(
-        has(combination, 4),
-        1,
-        either(has(combination, 8), 4, targets),
-    );
-    either(
-        has(combination, 1),
-        1,
-        either(has(combination, 2), 2, records),
-    )
+    NUMBERS
+        .iter()
+        .find(|(fault, _)| has(combination, *fault))
+        .map_or(0, |(_, number)| *number)
 }
 
 // The file: no vertex; a head above m; a target of n.
 pub fn make_file(file: &mut [u8], combination: u16) {
     put_words(file, &FILE);
-    put_word(file, 0, either(has(combination, 2), 0, 4));
-    put_word(file, 5, either(has(combination, 8), 5, 0));
-    put_word(file, 12, either(has(combination, 16), 4, 3));
+    put_word(file, 0, either(has(combination, NO_VERTEX), 0, 4));
+    put_word(file, 5, either(has(combination, LARGE_HEAD), 5, 0));
+    put_word(file, 12, either(has(combination, LARGE_TARGET), 4, 3));
 }
 
 // A record after itself; no head to a record.
 pub fn make_chains(file: &mut [u8], combination: u16) {
-    put_word(file, 11, either(has(combination, 512), 3, 0));
-    put_word(file, 4, either(has(combination, 1024), 0, 4));
+    put_word(file, 11, either(has(combination, CYCLE), 3, 0));
+    put_word(file, 4, either(has(combination, NO_HEAD), 0, 4));
 }
 
 // The byte after the finishing one, or the only one, is not of the forms.
 pub fn make_schedule(schedule: &mut [u8], combination: u16) {
-    let byte = either(has(combination, 128), 255, 0) % 256;
-    put(schedule, 25, byte as u8);
-    if has(combination, 2048) {
-        put(schedule, 0, byte as u8);
+    let byte = if has(combination, BAD_BYTE) { 255 } else { 0 };
+    put(schedule, 25, byte);
+    if has(combination, SHORT_SCHEDULE) {
+        put(schedule, 0, byte);
     }
 }
 
 // The lists at their need, but for the node values and the counts, which may be short.
 fn lent(combination: u16) -> Lengths {
-    let need = needs(4, 4, 2, 0);
-    Lengths {
-        offsets: need.offsets,
-        targets: need.targets,
-        marks: need.marks,
-        distances: need.distances,
-        parents: need.parents,
-        histogram: either(has(combination, 4096), 3, 4) as usize,
-        left: need.left,
-        right: need.right,
-        values: either(has(combination, 256), 8, 9) as usize,
+    let mut lengths = needs(4, 4, 2, 0);
+    if has(combination, SHORT_COUNTS) {
+        lengths.histogram = 3;
+    }
+    if has(combination, SHORT_VALUES) {
+        lengths.values = 8;
+    }
+    lengths
+}
+
+// The file's length.
+fn file_length(combination: u16) -> usize {
+    if has(combination, UNDER_4) {
+        3
+    } else if has(combination, SHORT_FILE) {
+        27
+    } else {
+        28
     }
 }
 
 // The request, with its own faults: the source, the workers, the file's length and the schedule's.
 pub fn request_of(combination: u16) -> Request {
     Request {
-        source: either(has(combination, 32), 4, 0),
-        workers: either(has(combination, 64), 9, 2),
+        source: either(has(combination, LARGE_SOURCE), 4, 0),
+        workers: either(has(combination, MANY_WORKERS), 9, 2),
         vertices: 4,
         edges: 4,
-        file: either(has(combination, 1), 3, either(has(combination, 4), 27, 28)) as usize,
-        schedule: either(has(combination, 2048), 1, 26) as usize,
+        file: file_length(combination),
+        schedule: if has(combination, SHORT_SCHEDULE) {
+            1
+        } else {
+            26
+        },
         lengths: lent(combination),
     }
 }

@@ -22,29 +22,27 @@ pub struct Judged {
     pub digest: u64,
 }
 
+impl Judged {
+    // One vertex more.
+    fn with(self, distance: u16, parent: u16, right: bool) -> Self {
+        let digest = self.digest % 2147483647 * 31 + u64::from(distance);
+        Judged {
+            right: self.right & right,
+            digest: digest % 2147483647 * 31 + u64::from(parent),
+        }
+    }
+}
+
 // Whether there is an edge from one vertex to the other.
 pub fn has_edge(rows: &[u16], row_targets: &[u16], from: u16, to: u16) -> bool {
-    let end = at(rows, after(from));
-    let mut edge = at(rows, from);
-    while edge < end {
-        if at(row_targets, edge) == to {
-            return true;
-        }
-        edge += 1;
-    }
-    false
+    (at(rows, from)..at(rows, after(from))).any(|edge| at(row_targets, edge) == to)
 }
 
 // Whether a vertex may have an unset distance: its parent is unset too, and the source does not reach
 // it, or the search goes on and d is still below its distance.
 fn may_be_unset(view: View, parent: u16, wanted: u16) -> bool {
-    if parent != UNSET {
-        return false;
-    }
-    if wanted == UNSET {
-        return true;
-    }
-    !view.is_finished & (view.layer < wanted as usize)
+    let is_beyond = !view.is_finished && view.layer < usize::from(wanted);
+    parent == UNSET && (wanted == UNSET || is_beyond)
 }
 
 // Whether the parent is one nearer and has an edge to the vertex.
@@ -56,11 +54,8 @@ fn is_parent(
     rows: &[u16],
     row_targets: &[u16],
 ) -> bool {
-    if view.vertices <= parent {
-        return false;
-    }
-    let nearer = after(at(wanted, parent)) == at(wanted, vertex);
-    nearer & has_edge(rows, row_targets, parent, vertex)
+    let is_nearer = after(at(wanted, parent)) == at(wanted, vertex);
+    parent < view.vertices && is_nearer && has_edge(rows, row_targets, parent, vertex)
 }
 
 // Whether both labels of one vertex are right. A distance is at most d + 1. Until the finish a vertex
@@ -84,22 +79,13 @@ fn is_right(
     if vertex == view.source {
         return parent == vertex;
     }
-    if std::num::wrapping_add_usize(view.layer, 1) < distance as usize {
+    if view.layer.wrapping_add(1) < usize::from(distance) {
         return false;
     }
     if parent == UNSET {
         return !view.is_finished;
     }
     is_parent(view, parent, vertex, wanted, rows, row_targets)
-}
-
-// One vertex more.
-fn with(judged: Judged, distance: u16, parent: u16, right: bool) -> Judged {
-    let digest = judged.digest % 2147483647 * 31 + distance as u64;
-    Judged {
-        right: judged.right & right,
-        digest: digest % 2147483647 * 31 + parent as u64,
-    }
 }
 
 // Whether the first n labels are right. `wanted` has the distances.
@@ -115,13 +101,11 @@ pub fn judge(
         right: true,
         digest: 0,
     };
-    let mut vertex: u16 = 0;
-    while vertex < view.vertices {
+    for vertex in 0..view.vertices {
         let distance = at(distances, vertex);
         let parent = at(parents, vertex);
         let right = is_right(view, vertex, distance, parent, wanted, rows, row_targets);
-        judged = with(judged, distance, parent, right);
-        vertex += 1;
+        judged = judged.with(distance, parent, right);
     }
     judged
 }

@@ -18,14 +18,12 @@ pub const BYTES: usize = 40952;
 
 // A path of this many edges, from vertex 0 on: its edges, and the rows up to its end.
 pub fn line(edges: u16, sources: &mut [u16], row_targets: &mut [u16], rows: &mut [u16]) {
-    let mut edge: u16 = 0;
-    while edge < edges {
+    for edge in 0..edges {
         let next = after(edge);
         put(sources, edge, edge);
         put(row_targets, edge, next);
         put(rows, next, next);
         put(rows, after(next), next);
-        edge += 1;
     }
 }
 
@@ -43,7 +41,7 @@ pub fn make(
 
 // How many bytes a case has.
 fn length_of(case: u16) -> usize {
-    case as usize * EIGHTH
+    usize::from(case) * EIGHTH
 }
 
 // The request of a case. The lists are at their need, or up to three places longer.

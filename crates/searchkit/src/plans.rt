@@ -21,18 +21,18 @@ pub struct Plan {
 // The moves of a worker that does all the work: it takes every reached vertex, looks at every
 // reached edge, and marks, names and stows every vertex but the source.
 fn moves(reach: Reach) -> usize {
-    let labels = 4 * (reach.vertices as usize) + reach.edges as usize;
-    std::num::wrapping_sub_usize(labels, 3)
+    let labels = 4 * usize::from(reach.vertices) + usize::from(reach.edges);
+    labels.wrapping_sub(3)
 }
 
 // The fewest effective events of a finished search: the moves, and a close for each layer.
 fn fewest(reach: Reach) -> usize {
-    std::num::wrapping_add_usize(moves(reach), reach.depth as usize + 1)
+    moves(reach).wrapping_add(usize::from(reach.depth) + 1)
 }
 
 // With full rounds alone worker 0 moves once in each, and the last layer closes in the last.
 fn is_exact(seen: Seen, plan: Plan, reach: Reach) -> bool {
-    let used = times(std::num::wrapping_add_u16(plan.workers, 1), moves(reach));
+    let used = times(plan.workers.wrapping_add(1), moves(reach));
     if (plan.length as usize) < used {
         return seen.number == 21;
     }
@@ -45,7 +45,7 @@ fn is_within(seen: Seen, plan: Plan, reach: Reach) -> bool {
     if (seen.effective > seen.used) | (seen.effective > most) {
         return false;
     }
-    let depth = reach.depth as usize;
+    let depth = usize::from(reach.depth);
     if seen.number == 21 {
         return (seen.used == plan.length as usize) & (seen.layer <= depth);
     }

@@ -8,18 +8,15 @@ use testkit::random::{below, leap, next};
 // Each workers' number with each mixture and each kind of length, 8 times.
 pub const ROUNDS: u16 = 1280;
 
-// The length: up to 2 bytes, up to 99, up to 999, or 6,000.
+// The length: up to 2 bytes, up to 99, up to 999, or 6,000, by a digit of the round's number: an enum of
+// it would be made here alone.
 fn length_of(kind: u16, seed: u64) -> u32 {
-    if kind == 0 {
-        return below(seed, 3) as u32;
+    match kind {
+        0 => u32::from(below(seed, 3)),
+        1 => u32::from(below(seed, 100)),
+        2 => u32::from(below(seed, 1000)),
+        _ => 6000,
     }
-    if kind == 1 {
-        return below(seed, 100) as u32;
-    }
-    if kind == 2 {
-        return below(seed, 1000) as u32;
-    }
-    6000
 }
 
 // The round's graph, source and schedule.
@@ -41,7 +38,7 @@ fn drawn_plan(round: u16, seed: u64) -> Plan {
 
 // The round's plan.
 pub fn plan_of(round: u16) -> Plan {
-    drawn_plan(round, leap(round as u64 + 1))
+    drawn_plan(round, leap(u64::from(round) + 1))
 }
 
 // The lists are at their need, or up to three places longer.

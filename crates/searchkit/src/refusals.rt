@@ -3,6 +3,7 @@
 use crate::base::FILE;
 use crate::requests::{Request, needs};
 use testkit::files::{put, put_word, put_words};
+use testkit::words::{cell, row_of};
 
 // The cases of both tables.
 pub const ROWS: u16 = 79;
@@ -120,42 +121,18 @@ const CALLS: [[u16; 6]; 43] = [
     [3, 1, 1, 192, 3, 0],
 ];
 
-// A place of the first table; 0 outside it.
-fn file_cell(row: u16, column: usize) -> u16 {
-    let i = row as usize;
-    if i < 36 {
-        if column < 6 {
-            return FILES[i][column];
-        }
-    }
-    0
-}
-
-// A place of the second table; 0 outside it.
-fn call_cell(row: u16, column: usize) -> u16 {
-    let i = row as usize;
-    if i < 43 {
-        if column < 6 {
-            return CALLS[i][column];
-        }
-    }
-    0
-}
-
 // Case A's file with the two words of a case.
 pub fn make_file(file: &mut [u8], row: u16) {
+    let [_, place, word, second, another, _] = row_of(&FILES, row);
     put_words(file, &FILE);
-    put_word(file, file_cell(row, 1) as usize, file_cell(row, 2));
-    put_word(file, file_cell(row, 3) as usize, file_cell(row, 4));
+    put_word(file, usize::from(place), word);
+    put_word(file, usize::from(second), another);
 }
 
 // Case A's schedule with the byte of a case.
 pub fn make_schedule(schedule: &mut [u8], row: u16) {
-    put(
-        schedule,
-        call_cell(row, 2) as usize,
-        (call_cell(row, 3) % 256) as u8,
-    );
+    let [_, _, place, byte, _, _] = row_of(&CALLS, row);
+    put(schedule, usize::from(place), (byte % 256) as u8);
 }
 
 // The request of a case of the first table. The lists are two places longer than their need.
@@ -165,7 +142,7 @@ pub fn file_request(row: u16) -> Request {
         workers: 2,
         vertices: 4,
         edges: 4,
-        file: file_cell(row, 0) as usize,
+        file: usize::from(cell(&FILES, row, 0)),
         schedule: 26,
         lengths: needs(4, 4, 8, 2),
     }
@@ -173,23 +150,24 @@ pub fn file_request(row: u16) -> Request {
 
 // The request of a case of the second table.
 pub fn call_request(row: u16) -> Request {
+    let [source, workers, _, _, schedule, _] = row_of(&CALLS, row);
     Request {
-        source: call_cell(row, 0),
-        workers: call_cell(row, 1),
+        source,
+        workers,
         vertices: 4,
         edges: 4,
         file: 28,
-        schedule: call_cell(row, 4) as usize,
+        schedule: usize::from(schedule),
         lengths: needs(4, 4, 8, 2),
     }
 }
 
 // The number of a case of the first table.
 pub fn file_number(row: u16) -> u16 {
-    file_cell(row, 5)
+    cell(&FILES, row, 5)
 }
 
 // The number of a case of the second table.
 pub fn call_number(row: u16) -> u16 {
-    call_cell(row, 5)
+    cell(&CALLS, row, 5)
 }

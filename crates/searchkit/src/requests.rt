@@ -2,7 +2,7 @@
 use crate::counts::places;
 
 // How much of each list is lent.
-#[derive(Clone, Copy)]
+#[derive(Clone, Copy, Default)]
 pub struct Lengths {
     pub offsets: usize,
     pub targets: usize,
@@ -30,9 +30,9 @@ pub struct Request {
 
 // The lists with `more` places than their need.
 pub fn needs(vertices: u16, edges: u16, workers: u16, more: u16) -> Lengths {
-    let labels = vertices as usize + more as usize;
-    let records = edges as usize + more as usize;
-    let nodes = std::num::wrapping_add_usize(places(vertices, workers), more as usize);
+    let labels = usize::from(vertices) + usize::from(more);
+    let records = usize::from(edges) + usize::from(more);
+    let nodes = places(vertices, workers).wrapping_add(usize::from(more));
     Lengths {
         offsets: labels + 1,
         targets: records,
@@ -72,5 +72,5 @@ pub struct Report {
 
 // Whether the number is one of a search that was played: 0 or 21.
 pub fn is_played(number: usize) -> bool {
-    (number == 0) | (number == 21)
+    matches!(number, 0 | 21)
 }

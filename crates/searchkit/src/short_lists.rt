@@ -28,14 +28,14 @@ fn choice(combination: u16, list: u16) -> u16 {
     if combination < 20 {
         return combination - 17;
     }
-    let drawn = below(leap(combination as u64 * 9 + list as u64), 16);
+    let drawn = below(leap(u64::from(combination) * 9 + u64::from(list)), 16);
     if drawn == 0 { 0 } else { 1 + drawn % 2 }
 }
 
 // The length of a list with this need.
 fn length(need: usize, combination: u16, list: u16) -> usize {
-    let longer = std::num::wrapping_add_usize(need, extra(choice(combination, list)));
-    std::num::wrapping_sub_usize(longer, 1)
+    let longer = need.wrapping_add(extra(choice(combination, list)));
+    longer.wrapping_sub(1)
 }
 
 pub fn lent(combination: u16) -> Lengths {
@@ -53,17 +53,10 @@ pub fn lent(combination: u16) -> Lengths {
     }
 }
 
-// Whether the list is one short.
-fn is_short(combination: u16, list: u16) -> bool {
-    choice(combination, list) == 0
-}
-
 // 20 where one of the lists is one short.
 pub fn expected(combination: u16) -> usize {
-    let rows = is_short(combination, 0) | is_short(combination, 1) | is_short(combination, 2);
-    let labels = is_short(combination, 3) | is_short(combination, 4) | is_short(combination, 5);
-    let nodes = is_short(combination, 6) | is_short(combination, 7) | is_short(combination, 8);
-    if rows | labels | nodes { 20 } else { 0 }
+    let is_short = (0..9).any(|list| choice(combination, list) == 0);
+    if is_short { 20 } else { 0 }
 }
 
 // The graph and the schedule.

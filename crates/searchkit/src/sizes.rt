@@ -2,6 +2,7 @@
 // workers. The lists are at their need.
 use crate::plans::Plan;
 use crate::requests::{Lengths, needs};
+use testkit::words::{cell, row_of};
 
 pub const ROWS: u16 = 11;
 
@@ -20,27 +21,16 @@ const CASES: [[u16; 6]; 11] = [
     [4097, 32769, 8, 1, 0, 2],
 ];
 
-// A place of the table; 0 outside it.
-fn cell(row: u16, column: u16) -> u16 {
-    let i = row as usize;
-    let j = column as usize;
-    if i < 11 {
-        if j < 6 {
-            return CASES[i][j];
-        }
-    }
-    0
-}
-
 // The plan of a case.
 pub fn plan_of(row: u16) -> Plan {
+    let [vertices, edges, workers, thousands, mixture, _] = row_of(&CASES, row);
     Plan {
-        vertices: cell(row, 0),
-        edges: cell(row, 1),
+        vertices,
+        edges,
         source: 0,
-        workers: cell(row, 2),
-        length: cell(row, 3) as u32 * 1000,
-        mixture: cell(row, 4),
+        workers,
+        length: u32::from(thousands) * 1000,
+        mixture,
         seed: 77,
     }
 }
@@ -52,5 +42,5 @@ pub fn lent(plan: Plan) -> Lengths {
 
 // The number of a case.
 pub fn number(row: u16) -> usize {
-    cell(row, 5) as usize
+    usize::from(cell(&CASES, row, 5))
 }

@@ -14,8 +14,5 @@ pub fn leap(seed: u64) -> u64 {
 // A number below the bound, drawn by the seed; 0 where the bound is 0.
 pub fn below(seed: u64, bound: u16) -> u16 {
     let drawn = (seed / 8 % 65536) as u16;
-    if bound == 0 {
-        return 0;
-    }
-    drawn % bound
+    drawn.checked_rem(bound).unwrap_or(0)
 }

@@ -2,8 +2,9 @@
 // have known contents at entry, and may be longer than what is lent of them.
 use crate::files;
 use crate::sample::file_length;
-use crate::words::{agree, holds, is_stamped, prefix, stamp};
-use graph::ReadAnswer;
+use crate::words::{agree, first, holds, is_stamped, lent, stamp};
+use graph::Survey;
+use numbers::Refused;
 
 // What `stamp` puts into the three lists before a call.
 const OFFSETS_TAG: u16 = 7777;
@@ -25,9 +26,9 @@ pub struct Lengths {
 pub fn needs(vertices: u16, edges: u16) -> Lengths {
     Lengths {
         file: file_length(vertices, edges),
-        offsets: vertices as usize + 1,
-        targets: edges as usize,
-        marks: edges as usize,
+        offsets: usize::from(vertices) + 1,
+        targets: usize::from(edges),
+        marks: usize::from(edges),
     }
 }
 
@@ -39,38 +40,27 @@ fn prepare(offsets: &mut [u16], targets: &mut [u16], marks: &mut [u16]) {
 }
 
 // Reads with the first places of each list.
-fn read_at(
-    file: &[u8],
+fn read_at<'a>(
+    file: &'a [u8],
     offsets: &mut [u16],
     targets: &mut [u16],
     marks: &mut [u16],
     lengths: Lengths,
-) -> ReadAnswer {
-    let f = files::prefix(file, lengths.file);
-    let o = prefix(offsets, lengths.offsets);
-    let t = prefix(targets, lengths.targets);
-    let k = prefix(marks, lengths.marks);
+) -> Result<Survey<'a>, Refused> {
     graph::read(
-        &file[..f],
-        &mut offsets[..o],
-        &mut targets[..t],
-        &mut marks[..k],
+        first(file, lengths.file),
+        lent(offsets, lengths.offsets),
+        lent(targets, lengths.targets),
+        lent(marks, lengths.marks),
     )
 }
 
 // How many marks are 0 after a refusal: with 5 and 6 the first m.
-fn cleared(file: &[u8], number: usize) -> usize {
-    if number == 5 {
-        return files::word(file, 1) as usize;
+pub fn cleared(number: usize, edges: u16) -> usize {
+    match number {
+        5 | 6 => usize::from(edges),
+        _ => 0,
     }
-    if number == 6 {
-        return files::word(file, 1) as usize;
-    }
-    0
-}
-
-fn is_answer(answer: ReadAnswer, number: usize, n: usize, m: usize) -> bool {
-    (answer.number == number) & (answer.vertices == n) & (answer.edges == m)
 }
 
 // Whether a refusal left the lists as they were, but for the first `zeros` marks.
@@ -89,19 +79,19 @@ fn are_rows(
     n: usize,
     m: usize,
 ) -> bool {
-    let places = std::num::wrapping_add_usize(n, 1);
+    let places = n.wrapping_add(1);
     agree(offsets, rows, places) & agree(targets, row_targets, m) & holds(marks, m, 0)
 }
 
 // Whether the places past the need are as they were.
 fn is_rest_kept(offsets: &[u16], targets: &[u16], marks: &[u16], n: usize, m: usize) -> bool {
-    let places = std::num::wrapping_add_usize(n, 1);
+    let places = n.wrapping_add(1);
     let rows = is_stamped(offsets, places, OFFSETS_TAG) & is_stamped(targets, m, TARGETS_TAG);
     rows & is_stamped(marks, m, MARKS_TAG)
 }
 
-// Whether the file is turned down with this number, with zeros beside it, and nothing is changed
-// but, with 5 and 6, the first m marks.
+// Whether the file is turned down with this number, and nothing is changed but, with 5 and 6, the first m
+// marks.
 pub fn refuses(
     file: &[u8],
     offsets: &mut [u16],
@@ -110,10 +100,11 @@ pub fn refuses(
     lengths: Lengths,
     number: usize,
 ) -> bool {
-    let zeros = cleared(file, number);
+    let zeros = cleared(number, files::word(file, 1));
     prepare(offsets, targets, marks);
     let answer = read_at(file, offsets, targets, marks, lengths);
-    is_answer(answer, number, 0, 0) & are_kept(offsets, targets, marks, zeros)
+    answer.is_err_and(|refused| refused.number() == number)
+        & are_kept(offsets, targets, marks, zeros)
 }
 
 // Whether the file is read, gives these rows, clears the first m marks, and leaves what lies past
@@ -129,12 +120,13 @@ pub fn reads(
     vertices: u16,
     edges: u16,
 ) -> bool {
-    let n = vertices as usize;
-    let m = edges as usize;
+    let n = usize::from(vertices);
+    let m = usize::from(edges);
     prepare(offsets, targets, marks);
     let answer = read_at(file, offsets, targets, marks, lengths);
     let written = are_rows(offsets, targets, marks, rows, row_targets, n, m);
-    is_answer(answer, 0, n, m) & written & is_rest_kept(offsets, targets, marks, n, m)
+    let sized = answer.is_ok_and(|survey| (survey.vertices == n) & (survey.edges == m));
+    sized & written & is_rest_kept(offsets, targets, marks, n, m)
 }
 
 // `reads` where the number is 0, else `refuses`.

@@ -6,9 +6,70 @@ use crate::files::put_word;
 use crate::random;
 use crate::words::{at, put};
 
+// A file and the rows of its graph.
+#[derive(Clone, Copy)]
+pub struct Graph<'a> {
+    pub file: &'a [u8],
+    pub rows: &'a [u16],
+    pub row_targets: &'a [u16],
+}
+
+// A graph's edges in row order, and the numbers of their records.
+#[derive(Drop)]
+struct Records<'a> {
+    vertices: u16,
+    edges: u16,
+    sources: &'a [u16],
+    targets: &'a [u16],
+    order: &'a [u16],
+}
+
+impl Records<'_> {
+    // The record after the one of an edge, or 0 where the edge is the last of its row.
+    fn next(&self, edge: u16) -> u16 {
+        let next = after(edge);
+        let goes_on = next < self.edges && at(self.sources, next) == at(self.sources, edge);
+        if goes_on { at(self.order, next) } else { 0 }
+    }
+
+    // Whether the edge is the first of its row.
+    fn is_first(&self, edge: u16) -> bool {
+        edge == 0 || at(self.sources, edge - 1) != at(self.sources, edge)
+    }
+
+    // Stores n, m, and a head of 0 for each vertex.
+    fn put_empty(&self, file: &mut [u8]) {
+        put_word(file, 0, self.vertices);
+        put_word(file, 1, self.edges);
+        for vertex in 0..self.vertices {
+            put_word(file, 2 + usize::from(vertex), 0);
+        }
+    }
+
+    // Stores the record of one edge, and the head of its chain where the edge is the first of its row.
+    fn put_edge(&self, file: &mut [u8], edge: u16) {
+        let source = at(self.sources, edge);
+        let record = at(self.order, edge);
+        let place = record_place(self.vertices, record);
+        put_word(file, place, at(self.targets, edge));
+        put_word(file, place + 1, self.next(edge));
+        if self.is_first(edge) {
+            put_word(file, 2 + usize::from(source), record);
+        }
+    }
+
+    // Makes the file.
+    fn encode(&self, file: &mut [u8]) {
+        self.put_empty(file);
+        for edge in 0..self.edges {
+            self.put_edge(file, edge);
+        }
+    }
+}
+
 // The length in bytes of a file.
 pub fn file_length(vertices: u16, edges: u16) -> usize {
-    2 * (2 + vertices as usize + 2 * (edges as usize))
+    2 * (2 + usize::from(vertices) + 2 * usize::from(edges))
 }
 
 // The source of the edge after one at `source`: the same, or some vertices on. On average the
@@ -17,11 +78,11 @@ fn next_source(source: u16, vertices: u16, edges: u16, seed: u64) -> u16 {
     if edges == 0 {
         return source;
     }
-    let far = random::below(seed, vertices) as usize;
-    let rest = random::below(random::leap(seed), edges) as usize;
-    let steps = (2 * far + rest) / (edges as usize);
-    let next = std::num::wrapping_add_usize(source as usize, steps);
-    if next < vertices as usize {
+    let far = usize::from(random::below(seed, vertices));
+    let rest = usize::from(random::below(random::leap(seed), edges));
+    let steps = (2 * far + rest) / usize::from(edges);
+    let next = usize::from(source).wrapping_add(steps);
+    if next < usize::from(vertices) {
         next as u16
     } else {
         source
@@ -30,67 +91,55 @@ fn next_source(source: u16, vertices: u16, edges: u16, seed: u64) -> u16 {
 
 // Draws the sources of all edges, in rising order.
 fn draw_sources(sources: &mut [u16], vertices: u16, edges: u16, seed: u64) {
-    let mut edge: u16 = 0;
     let mut source: u16 = 0;
     let mut state = seed;
-    while edge < edges {
+    for x in sources.iter_mut().take(usize::from(edges)) {
         state = random::next(state);
         source = next_source(source, vertices, edges, state);
-        put(sources, edge, source);
-        edge += 1;
+        *x = source;
     }
 }
 
 // Draws the targets of all edges.
 fn draw_targets(targets: &mut [u16], vertices: u16, edges: u16, seed: u64) {
-    let mut edge: u16 = 0;
     let mut state = seed;
-    while edge < edges {
+    for x in targets.iter_mut().take(usize::from(edges)) {
         state = random::next(state);
-        put(targets, edge, random::below(state, vertices));
-        edge += 1;
+        *x = random::below(state, vertices);
     }
 }
 
 // One more; the largest number stays.
 pub fn after(number: u16) -> u16 {
-    if number < 65535 { number + 1 } else { number }
+    number.saturating_add(1)
 }
 
 // The rows' offsets, by their meaning: the place of a vertex holds how many edges start before it.
 // `vertices + 1` places.
 fn offsets_of(offsets: &mut [u16], sources: &[u16], vertices: u16, edges: u16) {
-    let mut vertex: u16 = 0;
     let mut edge: u16 = 0;
     put(offsets, 0, 0);
-    while vertex < vertices {
+    for vertex in 0..vertices {
         edge = row_end(sources, vertex, edge, edges);
-        vertex += 1;
-        put(offsets, vertex, edge);
+        put(offsets, vertex + 1, edge);
     }
 }
 
 // The first edge from `start` on that does not start at the vertex.
 fn row_end(sources: &[u16], vertex: u16, start: u16, edges: u16) -> u16 {
-    let mut edge = start;
-    while edge < edges {
-        if at(sources, edge) != vertex {
-            return edge;
-        }
-        edge += 1;
-    }
-    edge
+    (start..edges)
+        .find(|edge| at(sources, *edge) != vertex)
+        .unwrap_or(start.max(edges))
 }
 
 // The order in which `write` numbers the records: edge 0 has record 1.
 fn row_order(order: &mut [u16], edges: u16) {
-    let mut edge: u16 = 0;
-    while edge < edges {
-        put(order, edge, after(edge));
-        edge += 1;
+    for (x, record) in order.iter_mut().zip(1..=edges) {
+        *x = record;
     }
 }
 
+// Swaps two places; the slice's own `swap` asks that both are there.
 fn swap(order: &mut [u16], a: u16, b: u16) {
     let first = at(order, a);
     let second = at(order, b);
@@ -100,13 +149,10 @@ fn swap(order: &mut [u16], a: u16, b: u16) {
 
 // Shuffles the records' numbers.
 fn shuffle(order: &mut [u16], edges: u16, seed: u64) {
-    let mut edge: u16 = 0;
     let mut state = seed;
-    while edge < edges {
+    for edge in 0..edges {
         state = random::next(state);
-        let other = random::below(state, after(edge));
-        swap(order, edge, other);
-        edge += 1;
+        swap(order, edge, random::below(state, after(edge)));
     }
 }
 
@@ -114,73 +160,7 @@ fn shuffle(order: &mut [u16], edges: u16, seed: u64) {
 pub fn record_place(vertices: u16, record: u16) -> usize
     ensures { result < 200000 }
 {
-    vertices as usize + 2 * (record as usize)
-}
-
-// Stores the record of one edge, and the head of its chain where the edge is the first of its row.
-fn put_edge(
-    file: &mut [u8],
-    vertices: u16,
-    edges: u16,
-    sources: &[u16],
-    targets: &[u16],
-    order: &[u16],
-    edge: u16,
-) {
-    let source = at(sources, edge);
-    let record = at(order, edge);
-    let place = record_place(vertices, record);
-    put_word(file, place, at(targets, edge));
-    put_word(file, place + 1, next_record(sources, order, edge, edges));
-    if is_first(sources, edge) {
-        put_word(file, 2 + source as usize, record);
-    }
-}
-
-// The record after the one of an edge, or 0 where the edge is the last of its row.
-fn next_record(sources: &[u16], order: &[u16], edge: u16, edges: u16) -> u16 {
-    let next = after(edge);
-    if next < edges {
-        if at(sources, next) == at(sources, edge) {
-            return at(order, next);
-        }
-    }
-    0
-}
-
-fn is_first(sources: &[u16], edge: u16) -> bool {
-    if edge == 0 {
-        return true;
-    }
-    at(sources, edge - 1) != at(sources, edge)
-}
-
-// Stores n, m, and a head of 0 for each vertex.
-fn put_empty(file: &mut [u8], vertices: u16, edges: u16) {
-    put_word(file, 0, vertices);
-    put_word(file, 1, edges);
-    let mut vertex: u16 = 0;
-    while vertex < vertices {
-        put_word(file, 2 + vertex as usize, 0);
-        vertex += 1;
-    }
-}
-
-// The file whose records have the numbers that `order` gives to the edges.
-fn encode(
-    file: &mut [u8],
-    vertices: u16,
-    edges: u16,
-    sources: &[u16],
-    targets: &[u16],
-    order: &[u16],
-) {
-    put_empty(file, vertices, edges);
-    let mut edge: u16 = 0;
-    while edge < edges {
-        put_edge(file, vertices, edges, sources, targets, order, edge);
-        edge += 1;
-    }
+    usize::from(vertices) + 2 * usize::from(record)
 }
 
 // Draws a graph: its edges and its rows' offsets.
@@ -207,7 +187,14 @@ pub fn encode_in_order(
     order: &mut [u16],
 ) {
     row_order(order, edges);
-    encode(file, vertices, edges, sources, targets, order);
+    let records = Records {
+        vertices,
+        edges,
+        sources,
+        targets,
+        order,
+    };
+    records.encode(file);
 }
 
 // A file of the graph with its records in a random order. `order` is working room.
@@ -222,7 +209,14 @@ pub fn encode_shuffled(
 ) {
     row_order(order, edges);
     shuffle(order, edges, seed);
-    encode(file, vertices, edges, sources, targets, order);
+    let records = Records {
+        vertices,
+        edges,
+        sources,
+        targets,
+        order,
+    };
+    records.encode(file);
 }
 
 // Draws a graph and makes a file of it with its records in a random order. `order` is working room.

@@ -1,111 +1,49 @@
-// Lists of 16-bit numbers: guarded places, contents that are known at every place, comparisons.
+// Lists of 16-bit numbers, whose places are such numbers too, and sums of them.
 ghost use Rattle.std.specs.Prelude.{◌<◌};
-ghost use Rattle.io.specs.Counts.{IsPrefixLen};
+
+use crate::contents;
+pub use crate::contents::{agree, at as at_place, first, holds, is_stamped, lent, stamp, stamp_of};
 
 // What stands at the place, or 0 past the end.
 pub fn at(list: &[u16], place: u16) -> u16 {
-    let i = place as usize;
-    if i < list.len() { list[i] } else { 0 }
+    contents::at(list, usize::from(place))
 }
 
 // Stores the value; past the end nothing.
 pub fn put(list: &mut [u16], place: u16, value: u16) {
-    let i = place as usize;
-    if i < list.len() {
-        list[i] = value;
-    }
+    contents::put(list, usize::from(place), value);
 }
 
-// The length asked for, or the list's where that is less: what may be lent as `&list[..r]`.
-pub fn prefix(list: &[u16], asked: usize) -> usize
-    ensures { IsPrefixLen result list.now }
-{
-    if asked < list.len() {
-        asked
-    } else {
-        list.len()
-    }
+// A row of a table; zeros outside it.
+pub fn row_of<const COLUMNS: usize>(table: &[[u16; COLUMNS]], row: u16) -> [u16; COLUMNS] {
+    table.get(usize::from(row)).copied().unwrap_or([0; COLUMNS])
 }
 
-// The number that `stamp` puts at a place: never 0, and different at neighbouring places.
-pub fn stamp_of(place: usize, tag: u16) -> u16 {
-    (place % 1009) as u16 * 41 + tag % 20000 + 1
-}
-
-// Gives a list contents that are known at every place.
-pub fn stamp(list: &mut [u16], tag: u16) {
-    let mut i = 0;
-    while i < list.len() {
-        list[i] = stamp_of(i, tag);
-        i += 1;
-    }
-}
-
-// Whether every place from `from` on still holds what `stamp` put there.
-pub fn is_stamped(list: &[u16], from: usize, tag: u16) -> bool {
-    let mut i = from;
-    while i < list.len() {
-        if list[i] != stamp_of(i, tag) {
-            return false;
-        }
-        i += 1;
-    }
-    true
-}
-
-// Whether the list has `count` places or more, and the first `count` hold the value.
-pub fn holds(list: &[u16], count: usize, value: u16) -> bool {
-    if list.len() < count {
-        return false;
-    }
-    let mut i = 0;
-    while i < count {
-        if list[i] != value {
-            return false;
-        }
-        i += 1;
-    }
-    true
-}
-
-// Whether both lists have `count` places or more, and agree in the first `count`.
-pub fn agree(a: &[u16], b: &[u16], count: usize) -> bool {
-    if a.len() < count {
-        return false;
-    }
-    if b.len() < count {
-        return false;
-    }
-    let mut i = 0;
-    while i < count {
-        if a[i] != b[i] {
-            return false;
-        }
-        i += 1;
-    }
-    true
-}
-
-// What stands at a place of any size, or 0 past the end.
-pub fn at_place(list: &[u16], place: usize) -> u16 {
-    if place < list.len() { list[place] } else { 0 }
+// A place of a table; 0 outside it.
+pub fn cell<const COLUMNS: usize>(table: &[[u16; COLUMNS]], row: u16, column: usize) -> u16 {
+    contents::at(&row_of(table, row), column)
 }
 
 // The sum of the places from `base` on, so many of them.
 pub fn total(list: &[u16], base: usize, places: usize) -> usize {
-    let mut sum = 0;
-    let mut place = 0;
-    while place < places {
-        let count = at_place(list, std::num::wrapping_add_usize(base, place)) as usize;
-        sum = std::num::wrapping_add_usize(sum, count);
-        place += 1;
-    }
-    sum
+    let row = list.iter().skip(base).take(places);
+    row.fold(0, |sum: usize, count| sum.wrapping_add(usize::from(*count)))
 }
 
-// How many places a list has beyond one short of its need: 0, 1 or 6.
+// How many places a list has beyond one short of its need: 0, 1 or 6. Choices are numbers because they
+// are the digits of a case's number.
 pub fn extra(choice: u16) -> usize
     ensures { result < 100000 }
 {
-    if choice == 2 { 6 } else { choice as usize }
+    if choice == 2 { 6 } else { usize::from(choice) }
+}
+
+// What is chosen for three lists: the combination's digits to the base 3.
+pub fn choices(combination: u16) -> [u16; 3] {
+    [combination % 3, combination / 3 % 3, combination / 9 % 3]
+}
+
+// One less than the need.
+pub fn short(need: usize) -> usize {
+    need.wrapping_sub(1)
 }

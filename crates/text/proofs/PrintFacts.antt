@@ -1,13 +1,13 @@
--- Printing: nothing, one byte more, one text behind another, and a text's next byte.
+-- Printing: nothing, a text, and one text behind another.
 use mathlib.Core.Path.{◌≡◌, refl, sym, ap, subst, ◌∙◌}
-use mathlib.Core.List.{List, [], ◌∷◌, ◌++◌, append_assoc, append-nil}
-use Prim.Native.Nat.{ℕ, ◌+◌, ◌<◌}
-use native.Mathlib.Numerals.{add-one}
+use mathlib.Core.List.{List, [], ◌++◌, append_assoc, append-nil}
+use Prim.Native.Nat.{ℕ, ◌+◌, ◌≤◌}
 use native.Mathlib.Omega.{arith}
-use lib.ListN.{length, get_or, set, take, length-append}
-use lib.Seq.{take_at, take-suc, get_or_at}
+use lib.ListN.{length, take, drop, length-append}
+use lib.Seq.{drop-drop}
+use borrow.Rule.Slice.PartMut.{put_mid}
 use Rattle.lists.specs.Lists.{overlay}
-use Rattle.lists.proofs.Overlay.{overlay_store, overlay_all, length_overlay}
+use Rattle.lists.proofs.Overlay.{overlay_front, drop_overlay, length_overlay}
 use Rattle.text.specs.Printed.{Printed, Prints}
 
 -- nothing is printed yet
@@ -28,18 +28,20 @@ prints_none output e old text p = record {
   room = omega (arith, p.room, ap length (append-nil text));
 }
 
--- a store of one byte behind what is printed
-pub prints_byte : (output : List ℕ) (at byte : ℕ) {at' : ℕ} → at < length output → at' ≡ at + 1
-    → Prints (byte ∷ []) output at (set output at byte) at'
-prints_byte output at byte room next old text p =
-    let new : List ℕ = text ++ (byte ∷ []) in
-    let size : length new ≡ at + 1 = length-append text (byte ∷ []) ∙ ap (λ (n : ℕ). n + 1) (sym p.used) in
-    let same : length output ≡ length old = ap length p.laid ∙ length_overlay text old p.room in
-    let front : text ≡ take at new = sym (take_at text (byte ∷ []) at (sym p.used)) in
-    let before : output ≡ overlay (take at new) old = p.laid ∙ ap (λ (t : List ℕ). overlay t old) front in
-    let there : byte ≡ get_or new at 0 = sym (get_or_at text byte [] 0 at (sym p.used)) in record {
-      laid = overlay_store new old before there (omega arith) (omega arith) ∙ overlay_all new old (at + 1) (omega arith);
-      used = next ∙ sym size;
+-- a text written behind what is printed, over as many places as it has
+pub prints_part : (text output : List ℕ) (at : ℕ) {part : List ℕ} {k at' : ℕ} → part ≡ text → k ≡ length text → at' ≡ at + k → at + k ≤ length output
+    → Prints text output at (put_mid at k output part) at'
+unfolding overlay
+prints_part text output at {k = k} e size next room old front p =
+    let new : List ℕ = front ++ text in
+    let long : length new ≡ at + k = omega (arith, length-append front text, p.used) in
+    let same : length output ≡ length old = ap length p.laid ∙ length_overlay front old p.room in
+    let before : take at output ≡ front = ap (take at) p.laid ∙ overlay_front front old at (sym p.used) in
+    let behind : drop k (drop at output) ≡ drop (length new) old =
+    ap (λ (l : List ℕ). drop k (drop at l)) p.laid ∙ ap (drop k) (drop_overlay front old at (omega (arith, p.used))) ∙ drop-drop k at old
+    ∙ ap (λ (n : ℕ). drop n old) (sym long) in record {
+      laid = (λ i. before i ++ (e i ++ behind i)) ∙ sym (append_assoc front text (drop (length new) old));
+      used = next ∙ sym long;
       room = omega arith;
     }
 
@@ -47,11 +49,3 @@ prints_byte output at byte room next old text p =
 pub prints_then : (a b : List ℕ) {output output' output'' : List ℕ} {at at' at'' : ℕ} → Prints a output at output' at'
     → Prints b output' at' output'' at'' → Prints (a ++ b) output at output'' at''
 prints_then a b f g old text p = rw (append_assoc text a b) at (g old (text ++ a) (f old text p))
-
--- a step that prints the next byte of a text
-pub prints_next : (text : List ℕ) {i byte : ℕ} {output output' output'' : List ℕ} {at at' at'' next : ℕ} → i < length text → byte ≡ get_or text i 0
-    → Prints (take i text) output at output' at' → Prints (byte ∷ []) output' at' output'' at'' → at'' ≡ next
-    → Prints (take (i + 1) text) output at output'' next
-prints_next text {i} {byte} {output} {output'' = output''} {at} h e f g last =
-    let step = ap (λ (x : ℕ). take i text ++ (x ∷ [])) e ∙ sym (take-suc text i 0 h) ∙ ap (λ (n : ℕ). take n text) (sym (add-one i)) in
-    subst (λ (n : ℕ). Prints (take (i + 1) text) output at output'' n) last (prints_same (prints_then (take i text) (byte ∷ []) f g) step)

@@ -16,72 +16,53 @@ pub const LINE_FEED: u8 = 10;
 // The width of a field without columns of its own: it begins where the one before it ends.
 pub const UNALIGNED: usize = 0;
 
-// One byte.
-fn put_byte(output: &mut [u8], at: usize, byte: u8) -> usize
-    requires { at < length output.old }
-    ensures value { result ≡ at + 1 }
-    ensures prints { Prints (byte ∷ []) output.old at output.new result }
-{
-    output[at] = byte;
-    at + 1
-}
-
 // All of a text.
 pub fn put_text(output: &mut [u8], at: usize, text: &[u8]) -> usize
     requires { at + length text.now ≤ length output.old }
     ensures value { result ≡ at + length text.now }
     ensures prints { Prints text.now output.old at output.new result }
 {
-    let mut i = 0;
-    while i < text.len() {
-        put_byte(output, at + i, text[i]);
-        i += 1;
-    }
-    at + i
+    let next = at + text.len();
+    output[at..next].copy_from_slice(text);
+    next
 }
 
-// A text, right-aligned in so many columns, at most 20.
-fn put_aligned(output: &mut [u8], at: usize, text: &[u8], width: usize) -> usize
-    requires width_bound { width ≤ 20 }
-    requires text_in_bounds { at + max width (length text.now) ≤ length output.old }
-    ensures value { result ≡ at + max width (length text.now) }
-    ensures prints { Prints (right_aligned width text.now) output.old at output.new result }
+// A text, right-aligned in so many columns, and a space or a line feed behind it.
+fn put_aligned(output: &mut [u8], at: usize, text: &[u8], width: usize, delimiter: u8) -> usize
+    requires { at + max width (length text.now) < length output.old }
+    ensures value { result ≡ at + max width (length text.now) + 1 }
+    ensures prints { Prints (right_aligned width text.now ++ (delimiter ∷ [])) output.old at output.new result }
 {
-    if width <= text.len() {
-        return put_text(output, at, text);
-    }
-    let blanks = [SPACE; 20];
-    let count = width - text.len();
-    let next = put_text(output, at, &blanks[..count]);
-    put_text(output, next, text)
+    let start = at + width.saturating_sub(text.len());
+    output[at..start].fill(SPACE);
+    let next = put_text(output, start, text);
+    put_text(output, next, &[delimiter])
 }
 
-// A number in decimal, right-aligned in so many columns, and a space or a line feed behind it.
+// A number in decimal, right-aligned in so many columns, and a space or a line feed behind it. `write!`
+// would add a way to fail: it promises its bytes where it succeeds, and nothing promises that it does.
 pub fn put_field(output: &mut [u8], at: usize, x: usize, width: usize, delimiter: u8) -> usize
-    requires width_bound { width ≤ 20 }
-    requires x_in_bounds { at + max width (length (decimal x)) < length output.old }
+    requires { at + max width (length (decimal x)) < length output.old }
     ensures value { result ≡ at + max width (length (decimal x)) + 1 }
     ensures prints { Prints (right_aligned width (decimal x) ++ (delimiter ∷ [])) output.old at output.new result }
 {
     let mut digits = [0u8; 20];
     let count = io::decimal(x as u64, &mut digits);
-    let next = put_aligned(output, at, &digits[..count], width);
-    put_byte(output, next, delimiter)
+    put_aligned(output, at, &digits[..count], width, delimiter)
 }
 
 // A distance or a parent, `-` for unset, right-aligned in so many columns, and a space or a line feed
 // behind it.
+#[tactic(auto, using(crate::proofs::TextFacts::label_unset, crate::proofs::TextFacts::label_set))]
 pub fn put_label(output: &mut [u8], at: usize, word: usize, width: usize, delimiter: u8) -> usize
-    requires width_bound { width ≤ 20 }
-    requires word_in_bounds { at + max width (length (label_text word)) < length output.old }
+    requires { at + max width (length (label_text word)) < length output.old }
     ensures value { result ≡ at + max width (length (label_text word)) + 1 }
     ensures prints { Prints (right_aligned width (label_text word) ++ (delimiter ∷ []))
         output.old at output.new result }
 {
     let unset = word == numbers::WIDE_UNSET;
     if unset {
-        let next = put_aligned(output, at, b"-", width);
-        return put_byte(output, next, delimiter);
+        return put_aligned(output, at, b"-", width, delimiter);
     }
     put_field(output, at, word, width, delimiter)
 }

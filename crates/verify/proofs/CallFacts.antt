@@ -15,7 +15,7 @@ use Rattle.graph.specs.Graph.{offsets_of, targets_of, rows_of}
 use Rattle.graph.specs.File.{vertex_count, edge_count, graph_of}
 use Rattle.graph.specs.Read.{header_refusals, scan_refusals, chain_refusals, clears_marks}
 use Rattle.graph.specs.Steps.{Unchained}
-use Rattle.graph.specs.declared.ReadAnswer.{ReadAnswer}
+use Rattle.graph.specs.Read.{ReadAnswer}
 use Rattle.graph.proofs.UnchainFacts.{marks_clear, starts_kept, ends_kept, starts_written, ends_written, rows_graph, rows_ground, starts_there, ends_there}
 use Rattle.model.specs.Words.{labels_in}
 use Rattle.verify.specs.Certificate.{result_wrong}

@@ -2,7 +2,7 @@
 -- that are read, and one vertex further.
 use mathlib.Core.Path.{◌≡◌, refl, sym, ap, ap₂, ◌∙◌}
 use mathlib.Core.Bool.{Bool, true, false, cond, not, ◌||◌}
-use mathlib.Core.List.{List, map}
+use mathlib.Core.List.{List, [], ◌∷◌, map}
 use mathlib.Core.Option.{Option, none, some}
 use Prim.Native.Nat.{ℕ, suc, ◌+◌, ◌-◌, ◌≤◌, ◌<◌}
 use native.Mathlib.Numerals.{add-one}
@@ -12,6 +12,7 @@ use lib.ListN.{length, get_or, drop, length-map, drop_of_length-le, get_or-eq_de
 use lib.Seq.{drop-cons}
 use borrow.Author.Tests.{eqb-true, lt-ltb, le-ltb, eq-eqb, ne_eqb}
 use Rattle.numbers.specs.Numbers.{unset}
+use Rattle.std.specs.List.{list_any}
 use Rattle.lists.specs.Lists.{numbers_from, elem, reaches, any_of}
 use Rattle.lists.proofs.Or.{or_found, or_passed}
 use Rattle.lists.proofs.Replaced.{map_at}
@@ -51,26 +52,12 @@ not_word vertex word h = go (eqb word unset) refl
     go true e = let same = eqb-true word unset e in sym (ap not (ne_eqb word vertex (λ (q : word ≡ vertex). omega arith)))
     go false e = refl
 
--- Whether a vertex stands in a row, one place after another.
+-- Whether a vertex stands in a row: some target is it.
 
-module _ (row : List ℕ) (x i : ℕ) (inv : elem x row ≡ elem x (drop i row)) where
-  -- it is the one at this place, or one further on
-  edge_more : {y : ℕ} → i < length row → y ≡ get_or row i 0 → elem x row ≡ eqb x y || elem x (drop (i + 1) row)
-  unfolding elem
-  edge_more h e = inv ∙ rw (drop-cons row i 0, add-one, e)
-
-  -- it is this one
-  pub edge_here : {y : ℕ} → i < length row → y ≡ get_or row i 0 → x ≡ y → true ≡ elem x row
-  edge_here {y} h e q = or_found (eqb x y) (elem x (drop (i + 1) row)) (edge_more h e) (eq-eqb x y q)
-
-  -- it isn't
-  pub edge_passed : {y : ℕ} → i < length row → y ≡ get_or row i 0 → (x ≡ y → ⊥) → elem x row ≡ elem x (drop (i + 1) row)
-  edge_passed {y} h e q = or_passed (eqb x y) (elem x (drop (i + 1) row)) (edge_more h e) (ne_eqb x y q)
-
-  -- none is left
-  pub edge_end : length row ≤ i → false ≡ elem x row
-  unfolding elem
-  edge_end h = sym (inv ∙ ap (elem x) (drop_of_length-le row h))
+pub elem_any : (x : ℕ) (row : List ℕ) → elem x row ≡ list_any (λ y. eqb x y) row
+unfolding elem
+elem_any x [] = refl
+elem_any x (y ∷ row) = ap (λ rest. eqb x y || rest) (elem_any x row)
 
 -- Whether some target of a row is unset or farther than `most`, one place after another.
 

@@ -13,7 +13,7 @@ use Rattle.lists.proofs.Or.{or_none}
 use Rattle.graph.specs.File.{vertex_count, edge_count}
 use Rattle.graph.specs.Read.{header_refusals, scan_refusals, rows_short, refusal_answer}
 use Rattle.graph.specs.Steps.{file_refusals, file_answer, Scanned}
-use Rattle.graph.specs.declared.ReadAnswer.{ReadAnswer}
+use Rattle.graph.specs.Read.{ReadAnswer}
 use Rattle.graph.proofs.ReadFacts.{file_scanned, long_enough}
 use Rattle.graph.proofs.EarlyFacts as early
 use Rattle.verify.specs.Check.{CheckLengths, check_short, check_early}
@@ -105,11 +105,11 @@ module _ (file : List ℕ) (source : ℕ) (lengths : CheckLengths) where
 
     module _ (whole : head.number ≡ 0) where
       -- 7
-      pub judged_source : {r : ReadAnswer} → head.vertices ≤ source → r ≡ refusal_answer bad_source → r ≡ early_answer file source lengths
-      judged_source h e =
+      pub judged_source : head.vertices ≤ source → refusal_answer bad_source ≡ early_answer file source lengths
+      judged_source h =
           let far = le-leb (vertex_count file) source (omega (arith, (file_scanned file answered whole).sized.vertices)) in
           let stopped = first_stop (leb (vertex_count file) source) bad_source last far in
-          early.by_others file others answered whole stopped (λ z. absurd (omega arith)) e ∙ answers
+          early.by_others file others answered whole stopped (λ z. absurd (omega arith)) ∙ answers
 
       module _ (near : source < head.vertices) {short : Bool} (seen : short ≡ check_short head.vertices head.edges lengths) where
         -- past 7
@@ -123,10 +123,10 @@ module _ (file : List ℕ) (source : ℕ) (lengths : CheckLengths) where
         file_short e = rw (← (file_scanned file answered whole).sized.vertices, ← (file_scanned file answered whole).sized.edges) (sym seen ∙ e)
 
         -- 20
-        pub judged_short : {r : ReadAnswer} → short ≡ true → r ≡ refusal_answer short_list → r ≡ early_answer file source lengths
-        judged_short h e =
+        pub judged_short : short ≡ true → refusal_answer short_list ≡ early_answer file source lengths
+        judged_short h =
             let stopped = number_short ∙ first_stop _ short_list [] (file_short h) in
-            early.by_others file others answered whole stopped (λ z. absurd (omega arith)) e ∙ answers
+            early.by_others file others answered whole stopped (λ z. absurd (omega arith)) ∙ answers
 
         -- or nothing is refused
         pub judged_whole : short ≡ false → head ≡ early_answer file source lengths

@@ -15,7 +15,7 @@ use Rattle.graph.specs.Graph.{Graph}
 use Rattle.graph.specs.File.{vertex_count, edge_count, graph_of}
 use Rattle.graph.specs.Read.{header_refusals, scan_refusals, chain_refusals, rows_short}
 use Rattle.graph.specs.Steps.{Sized}
-use Rattle.graph.specs.declared.ReadAnswer.{ReadAnswer}
+use Rattle.graph.specs.Read.{ReadAnswer}
 use Rattle.graph.proofs.FileLists.{length_graph}
 use Rattle.graph.proofs.WellFormed.{scan_bounded, graph_below, positive_header, positive_scan}
 use Rattle.model.specs.Paths.{Labels}

@@ -3,9 +3,8 @@
 use Rattle.std.specs.Prelude.{◌≡◌, List, ℕ, ◌+◌, ◌≤◌, ◌<◌, length, take}
 use Rattle.numbers.specs.Refusals.{first}
 use Rattle.graph.specs.File.{vertex_count, edge_count}
-use Rattle.graph.specs.Read.{answer_with}
+use Rattle.graph.specs.Read.{ReadAnswer, answer_with}
 use Rattle.graph.specs.Steps.{GraphRows}
-use Rattle.graph.specs.declared.ReadAnswer.{ReadAnswer}
 use Rattle.verify.specs.declared.Lengths.{Lengths}
 use Rattle.verify.specs.Check as check
 

@@ -1,5 +1,7 @@
 // The outside call: the tests on the input in document 01's order, the rows, then the certificate.
-ghost use Rattle.std.specs.Prelude.{◌≡◌, ◌+◌, take};
+ghost use Rattle.std.specs.Prelude.{◌≡◌, ◌+◌, take, IfOk};
+ghost use Rattle.numbers.specs.Told.{told};
+ghost use Rattle.graph.specs.Answers.{answer_of};
 ghost use Rattle.graph.specs.Graph.{rows_of};
 ghost use Rattle.model.specs.Words.{labels_in};
 ghost use Rattle.verify.specs.Certificate.{result_wrong};
@@ -8,34 +10,39 @@ ghost use Rattle.verify.specs.Promise.{lent_lists, check_exit, Judged};
 ghost use Rattle.verify.specs.Steps.{lengths_in, early_answer, CheckableIn};
 
 use crate::Lengths;
-use crate::certificate::result_wrong;
-use graph::{ReadAnswer, steps};
+use crate::certificate::Claim;
+use graph::{Survey, steps};
+use numbers::Refused;
 
 // 20: whether a lent list is shorter than its need.
-fn lengths_short(n: usize, m: usize, lengths: Lengths) -> bool
-    ensures { result ≡ check_short n m (lengths_in lengths) }
+#[tactic(auto, unfolding(crate::specs::Check::check_short))]
+fn lengths_short(survey: &Survey<'_>, lengths: Lengths) -> bool
+    ensures { result ≡ check_short survey.now.vertices survey.now.edges (lengths_in lengths) }
 {
-    if steps::rows_short(n, m, lengths.offsets, lengths.targets, lengths.marks) {
-        return true;
-    }
-    lengths.distances < n || lengths.parents < n
+    let n = survey.vertices;
+    steps::rows_short(
+        n,
+        survey.edges,
+        lengths.offsets,
+        lengths.targets,
+        lengths.marks,
+    ) || lengths.distances < n
+        || lengths.parents < n
 }
 
-// 1 (under 4), 2, 1 (length), 4, 3, 7, 20; with 0, n and m.
-fn judge(file: &[u8], source: usize, lengths: Lengths) -> ReadAnswer
-    ensures { result ≡ early_answer file.now source (lengths_in lengths) }
+// 1 (under 4), 2, 1 (length), 4, 3, 7, 20; what passes them is a survey of this file.
+fn judge(file: &[u8], source: usize, lengths: Lengths) -> Result<Survey<'_>, Refused>
+    ensures value { answer_of result ≡ early_answer file.now source (lengths_in lengths) }
+    ensures same_file { IfOk result (λ survey. survey.file.now ≡ file.now) }
 {
-    let answer = steps::examine(file);
-    if answer.number != numbers::SUCCESS {
-        return answer;
+    let survey = steps::examine(file)?;
+    if survey.vertices <= source {
+        return Err(Refused::BadSource);
     }
-    if answer.vertices <= source {
-        return steps::refused(numbers::BAD_SOURCE);
+    if lengths_short(&survey, lengths) {
+        return Err(Refused::ShortList);
     }
-    if lengths_short(answer.vertices, answer.edges, lengths) {
-        return steps::refused(numbers::SHORT_LIST);
-    }
-    answer
+    Ok(survey)
 }
 
 // Whether the result in the first places of these lists is wrong.
@@ -53,13 +60,14 @@ fn result_wrong_in(
         (labels_in n distances.now parents.now) }
 {
     let offset_count = n + 1;
-    result_wrong(
+    let claim = Claim {
         source,
-        &offsets[..offset_count],
-        &targets[..m],
-        &distances[..n],
-        &parents[..n],
-    )
+        offsets: &offsets[..offset_count],
+        targets: &targets[..m],
+        distances: &distances[..n],
+        parents: &parents[..n],
+    };
+    claim.result_wrong()
 }
 
 // The checker. Offsets, targets and marks are as the reader's; distances and parents are read alone,
@@ -72,13 +80,13 @@ pub fn check(
     offsets: &mut [u16],
     targets: &mut [u16],
     marks: &mut [u16],
-) -> usize
-    ensures marks_after { check_exit result (lent_lists offsets.new targets.new marks.new)
+) -> Result<(), Refused>
+    ensures marks_after { check_exit (told result) (lent_lists offsets.new targets.new marks.new)
         ≡ outcome_of_check file.now source distances.now parents.now
         (lent_lists offsets.old targets.old marks.old) }
     ensures judged { Judged file.now source distances.now parents.now
         (lent_lists offsets.old targets.old marks.old)
-        result }
+        (told result) }
 {
     let lengths = Lengths {
         distances: distances.len(),
@@ -87,18 +95,19 @@ pub fn check(
         targets: targets.len(),
         marks: marks.len(),
     };
-    let judged = judge(file, source, lengths);
-    if judged.number != numbers::SUCCESS {
-        return judged.number;
+    let survey = judge(file, source, lengths)?;
+    survey.unchain(offsets, targets, marks)?;
+    let n = survey.vertices;
+    if result_wrong_in(
+        n,
+        survey.edges,
+        source,
+        offsets,
+        targets,
+        distances,
+        parents,
+    ) {
+        return Err(Refused::BadResult);
     }
-    let n = judged.vertices;
-    let m = judged.edges;
-    let chained = steps::unchain(file, n, m, offsets, targets, marks);
-    if chained != numbers::SUCCESS {
-        return chained;
-    }
-    if result_wrong_in(n, m, source, offsets, targets, distances, parents) {
-        return numbers::BAD_RESULT;
-    }
-    numbers::SUCCESS
+    Ok(())
 }

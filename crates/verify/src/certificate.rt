@@ -4,7 +4,6 @@
 ghost use Rattle.std.specs.Prelude.{◌≡◌, false, map, ◌<◌, length};
 ghost use Rattle.lists.specs.Lists.{elem, reaches};
 ghost use Rattle.graph.specs.Graph.{rows_of};
-ghost use Rattle.graph.specs.Steps.{GraphRows};
 ghost use Rattle.model.specs.Words.{option_of, labels_of};
 ghost use Rattle.verify.specs.Certificate.{any_beyond, parent_wrong, vertex_wrong, result_wrong};
 ghost use Rattle.verify.specs.Steps.{Checkable};
@@ -17,16 +16,14 @@ fn any_beyond(row: &[u16], distances: &[u16], most: usize) -> bool
     requires { reaches (length distances.now) row.now ≡ false }
     ensures { result ≡ any_beyond (map option_of distances.now) most row.now }
 {
-    let mut i = 0;
-    while i < row.len() {
-        let reached = element(distances, element(row, i));
+    for target in row {
+        let reached = element(distances, usize::from(*target));
         if reached == WIDE_UNSET {
             return true;
         }
         if most < reached {
             return true;
         }
-        i += 1;
     }
     false
 }
@@ -35,97 +32,72 @@ fn any_beyond(row: &[u16], distances: &[u16], most: usize) -> bool
 fn has_edge(row: &[u16], vertex: usize) -> bool
     ensures { result ≡ elem vertex row.now }
 {
-    let mut i = 0;
-    while i < row.len() {
-        if vertex == element(row, i) {
+    row.iter().any(|target| vertex == usize::from(*target))
+}
+
+// A result for a graph's rows, and the source that it is of: as many distances and parents as vertices.
+#[derive(Clone, Copy)]
+pub struct Claim<'a> {
+    pub source: usize,
+    pub offsets: &'a [u16],
+    pub targets: &'a [u16],
+    pub distances: &'a [u16],
+    pub parents: &'a [u16],
+    ghost checkable: { Checkable source offsets.now targets.now distances.now parents.now },
+}
+
+impl<'a> Claim<'a> {
+    // Whether the parent is wrong for the vertex at this distance, which is set: a right parent is a
+    // vertex with a distance one less and an edge to this one.
+    fn parent_wrong(&self, vertex: usize, distance: usize, parent: usize) -> bool
+        ensures { result ≡ parent_wrong (rows_of self.now.offsets.now self.now.targets.now)
+            (map option_of self.now.distances.now) vertex distance (option_of parent) }
+    {
+        if self.distances.len() <= parent {
             return true;
         }
-        i += 1;
-    }
-    false
-}
-
-// Whether the parent is wrong for the vertex at this distance, which is set: a right parent is a vertex
-// with a distance one less and an edge to this one.
-fn parent_wrong(
-    vertex: usize,
-    distance: usize,
-    parent: usize,
-    offsets: &[u16],
-    targets: &[u16],
-    distances: &[u16],
-) -> bool
-    requires { GraphRows offsets.now targets.now (length distances.now) }
-    ensures { result ≡ parent_wrong (rows_of offsets.now targets.now)
-        (map option_of distances.now) vertex distance (option_of parent) }
-{
-    if distances.len() <= parent {
-        return true;
-    }
-    let parent_distance = element(distances, parent);
-    if parent_distance == WIDE_UNSET {
-        return true;
-    }
-    if parent_distance + 1 != distance {
-        return true;
-    }
-    if has_edge(view::links(offsets, targets, parent), vertex) {
-        return false;
-    }
-    true
-}
-
-// Whether the vertex's distance or its parent is wrong.
-fn vertex_wrong(
-    vertex: usize,
-    source: usize,
-    offsets: &[u16],
-    targets: &[u16],
-    distances: &[u16],
-    parents: &[u16],
-) -> bool
-    requires checkable { Checkable source offsets.now targets.now distances.now parents.now }
-    requires vertex_in_bounds { vertex < length distances.now }
-    ensures { result ≡ vertex_wrong (rows_of offsets.now targets.now) source
-        (labels_of distances.now parents.now) vertex }
-{
-    let distance = element(distances, vertex);
-    let parent = element(parents, vertex);
-    let unset = distance == WIDE_UNSET;
-    if unset {
-        return vertex == source || parent != WIDE_UNSET;
-    }
-    if any_beyond(
-        view::links(offsets, targets, vertex),
-        distances,
-        distance + 1,
-    ) {
-        return true;
-    }
-    if vertex == source {
-        return distance != 0 || parent != source;
-    }
-    parent_wrong(vertex, distance, parent, offsets, targets, distances)
-}
-
-// Whether some vertex's distance or parent is wrong.
-pub fn result_wrong(
-    source: usize,
-    offsets: &[u16],
-    targets: &[u16],
-    distances: &[u16],
-    parents: &[u16],
-) -> bool
-    requires { Checkable source offsets.now targets.now distances.now parents.now }
-    ensures { result ≡ result_wrong (rows_of offsets.now targets.now) source
-        (labels_of distances.now parents.now) }
-{
-    let mut vertex = 0;
-    while vertex < distances.len() {
-        if vertex_wrong(vertex, source, offsets, targets, distances, parents) {
+        let parent_distance = element(self.distances, parent);
+        if parent_distance == WIDE_UNSET {
             return true;
         }
-        vertex += 1;
+        if parent_distance + 1 != distance {
+            return true;
+        }
+        !has_edge(view::links(self.offsets, self.targets, parent), vertex)
     }
-    false
+
+    // Whether the vertex's distance or its parent is wrong.
+    fn vertex_wrong(&self, vertex: usize) -> bool
+        requires { vertex < length self.now.distances.now }
+        ensures { result ≡ vertex_wrong (rows_of self.now.offsets.now self.now.targets.now) self.now.source
+            (labels_of self.now.distances.now self.now.parents.now) vertex }
+    {
+        let distance = element(self.distances, vertex);
+        let parent = element(self.parents, vertex);
+        let unset = distance == WIDE_UNSET;
+        if unset {
+            return vertex == self.source || parent != WIDE_UNSET;
+        }
+        let row = view::links(self.offsets, self.targets, vertex);
+        if any_beyond(row, self.distances, distance + 1) {
+            return true;
+        }
+        if vertex == self.source {
+            return distance != 0 || parent != self.source;
+        }
+        self.parent_wrong(vertex, distance, parent)
+    }
+
+    // Whether some vertex's distance or parent is wrong.
+    pub fn result_wrong(&self) -> bool
+        ensures { result ≡ result_wrong (rows_of self.now.offsets.now self.now.targets.now) self.now.source
+            (labels_of self.now.distances.now self.now.parents.now) }
+    {
+        for vertex in 0..self.distances.len() {
+            if self.vertex_wrong(vertex) {
+                return true;
+            }
+        }
+        false
+    }
 }

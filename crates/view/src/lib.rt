@@ -1,40 +1,37 @@
-// The view of one vertex's edges, as a part of the caller's own targets. `links` and `links_number`
+// The view of one vertex's edges, as a part of the caller's own targets. `links` and `check_links`
 // are outside calls; they assume nothing.
 #![tactic(auto)]
 
-ghost use Rattle.std.specs.Prelude.{◌≡◌, ◌+◌, ◌≤◌, ltb, length, get_or};
+ghost use Rattle.std.specs.Prelude.{◌≡◌, ◌+◌, ◌≤◌, true, false, MatchOption, length, get_or};
+ghost use Rattle.numbers.specs.Told.{told};
 ghost use Rattle.graph.specs.Links.{out_of_view, links_number, links_start, word_place, links_of};
 
 use graph::words::element;
+use numbers::Refused;
+use std::ops::Range;
 
-// Where the row of a vertex starts and ends in the targets.
-#[derive(Clone, Copy)]
-struct Row {
-    start: usize,
-    end: usize,
-}
-
-// The two offsets of a vertex; 1 and 0, which fall, where it has none or the second passes the end
-// of the targets.
-fn bounds(offsets: &[u16], targets: &[u16], vertex: usize) -> Row
-    ensures start_value { ltb result.end result.start ≡ out_of_view offsets.now targets.now vertex }
-    ensures end_in_bounds { result.end ≤ length targets.now }
-    ensures start_value_2 { result.start ≤ result.end → result.start ≡ get_or offsets.now vertex 0 }
-    ensures end_value { result.start ≤ result.end → result.end ≡ get_or offsets.now (vertex + 1) 0 }
+// Where the row of a vertex starts and ends in the targets: its two offsets. `None` where it has none,
+// they fall or the second passes the end of the targets.
+fn bounds(offsets: &[u16], targets: &[u16], vertex: usize) -> Option<Range<usize>>
+    ensures { MatchOption result (out_of_view offsets.now targets.now vertex ≡ true)
+        (λ row. (out_of_view offsets.now targets.now vertex ≡ false) × (row.start ≡ get_or offsets.now vertex 0)
+        × (row.end ≡ get_or offsets.now (vertex + 1) 0) × (row.start ≤ row.end) × (row.end ≤ length targets.now)) }
 {
-    let none = Row { start: 1, end: 0 };
     if offsets.len() < 2 {
-        return none;
+        return None;
     }
     if offsets.len() - 1 <= vertex {
-        return none;
+        return None;
     }
     let start = element(offsets, vertex);
     let end = element(offsets, vertex + 1);
-    if targets.len() < end {
-        return none;
+    if end < start {
+        return None;
     }
-    Row { start, end }
+    if targets.len() < end {
+        return None;
+    }
+    Some(start..end)
 }
 
 // "The part of the targets list itself that belongs to the device, or an empty part where number 11
@@ -45,23 +42,18 @@ pub fn links<'a, 'b>(offsets: &'b [u16], targets: &'a [u16], vertex: usize) -> &
     ensures result_value { result.now ≡ links_of offsets.now targets.now vertex }
 {
     let front = 0;
-    let row = bounds(offsets, targets, vertex);
-    let start = row.start;
-    let end = row.end;
-    let falls = end < start;
-    if falls {
-        return &targets[front..front];
+    match bounds(offsets, targets, vertex) {
+        Some(row) => &targets[row],
+        None => &targets[front..front],
     }
-    &targets[start..end]
 }
 
 // "a sister call gives 0 or 11": 11 where the vertex is out of view.
-pub fn links_number(offsets: &[u16], targets: &[u16], vertex: usize) -> usize
-    ensures { result ≡ links_number offsets.now targets.now vertex }
+pub fn check_links(offsets: &[u16], targets: &[u16], vertex: usize) -> Result<(), Refused>
+    ensures { told result ≡ links_number offsets.now targets.now vertex }
 {
-    let row = bounds(offsets, targets, vertex);
-    if row.end < row.start {
-        return numbers::BAD_ROWS;
+    match bounds(offsets, targets, vertex) {
+        Some(_) => Ok(()),
+        None => Err(Refused::BadRows),
     }
-    numbers::SUCCESS
 }

@@ -1,5 +1,5 @@
 -- The close: bags united one after another into a first one, and that these are the output bags of idle workers and worker 0's input bag.
-use mathlib.Core.Path.{◌≡◌, refl, sym, ap, ap₂, subst, ◌∙◌}
+use mathlib.Core.Path.{◌≡◌, refl, sym, ap, ap₂, ◌∙◌}
 use mathlib.Core.Bool.{true, and-eq-true_iff}
 use mathlib.Core.List.{List, [], ◌∷◌, map, map-append, foldl, foldl-append}
 use Prim.Native.Nat.{ℕ, suc, ◌+◌, ◌≤◌, ◌<◌}
@@ -87,14 +87,14 @@ module _ (first : declared.Bag) (bags : List declared.Bag) (left₀ right₀ : L
   next_pool = rw next_bag at gathering.pool
 
   -- what a union requires
-  gather_requires : Pooled left right (bag ∷ get_or bags w past_bag ∷ [])
+  pub gather_requires : Pooled left right (bag ∷ get_or bags w past_bag ∷ [])
   gather_requires =
       pool_two (bag ∷ get_or bags w past_bag ∷ drop (suc w) bags) 0 1 next_pool (omega arith) (omega arith) (λ (e : ◌≡◌ {A = ℕ} 0 1). omega arith)
 
   -- a union with the next bag
-  gather_step : (left' right' : List ℕ) (bag' : declared.Bag) → United left right bag (get_or bags w past_bag) left' right' bag'
+  pub gather_step : {left' right' : List ℕ} {bag' : declared.Bag} → United left right bag (get_or bags w past_bag) left' right' bag'
       → Gathering first bags left₀ right₀ (w + 1) left' right' bag'
-  gather_step left' right' bag' made =
+  gather_step {left'} {right'} {bag'} made =
       rw add-one
       record {
         within = below;
@@ -127,47 +127,17 @@ module _ (first : declared.Bag) (bags : List declared.Bag) (left₀ right₀ : L
       there values = let same = still values in cc
 
 -- at its end all have been united
-gather_end : (first : declared.Bag) (bags : List declared.Bag) (left₀ right₀ left right : List ℕ) (bag : declared.Bag)
-    → Gathering first bags left₀ right₀ (length bags) left right bag
+pub gather_end : (first : declared.Bag) (bags : List declared.Bag) (left₀ right₀ : List ℕ) (w : ℕ) (left right : List ℕ) (bag : declared.Bag)
+    → Gathering first bags left₀ right₀ w left right bag → length bags ≤ w
     → Gathered first bags left₀ right₀ left right bag
-gather_end first bags left₀ right₀ left right bag gathering = record {
-  united = λ values.
-      gathering.united values
-      ∙ ap (λ (l : List declared.Bag). foldl bag_union (held_by left₀ right₀ values first) (map (held_by left₀ right₀ values) l)) (take-length bags);
-  moved = rw (drop-length bags) at gathering.moved;
-}
-
--- The first P of a longer list of bags.
-
-module _ (outputs : List declared.Bag) (P : ℕ) (there : P ≤ length outputs) where
-  -- so many
-  few : length (take P outputs) ≡ P
-  few = length-take-le P outputs there
-
-  module _ {first : declared.Bag} {left₀ right₀ left right : List ℕ} {bag : declared.Bag} (w : ℕ)
-      (gathering : Gathering first (take P outputs) left₀ right₀ w left right bag) (below : w < P) where
-    -- the next one
-    next_one : get_or (take P outputs) w past_bag ≡ get_or outputs w past_bag
-    next_one = get_or-take P outputs w past_bag below
-
-    -- what a union requires
-    pub gather_next_requires : Pooled left right (bag ∷ get_or outputs w past_bag ∷ [])
-    gather_next_requires =
-        rw next_one at (gather_requires first (take P outputs) left₀ right₀ w left right bag gathering (rw few below))
-
-    -- one bag more
-    pub gather_next : {left' right' : List ℕ} {bag' : declared.Bag} → United left right bag (get_or outputs w past_bag) left' right' bag'
-        → Gathering first (take P outputs) left₀ right₀ (w + 1) left' right' bag'
-    gather_next {left'} {right'} {bag'} made =
-        gather_step first (take P outputs) left₀ right₀ w left right bag gathering (rw few below) left' right' bag' (rw next_one made)
-
-  -- the end
-  pub gather_last : {first : declared.Bag} {left₀ right₀ left right : List ℕ} {bag : declared.Bag} (w : ℕ) → P ≤ w
-      → Gathering first (take P outputs) left₀ right₀ w left right bag
-      → Gathered first (take P outputs) left₀ right₀ left right bag
-  gather_last {first} {left₀} {right₀} {left} {right} {bag} w past gathering =
-      gather_end first (take P outputs) left₀ right₀ left right bag
-      (subst (λ (i : ℕ). Gathering first (take P outputs) left₀ right₀ i left right bag) (omega (arith, gathering.within, few)) gathering)
+gather_end first bags left₀ right₀ w left right bag gathering past =
+    let all : w ≡ length bags = omega (arith, gathering.within) in
+    record {
+      united = λ values.
+          gathering.united values
+          ∙ ap (λ (l : List declared.Bag). foldl bag_union (held_by left₀ right₀ values first) (map (held_by left₀ right₀ values) l)) (ap (λ (n : ℕ). take n bags) all ∙ take-length bags);
+      moved = rw (all, drop-length bags) at gathering.moved;
+    }
 
 -- Idle workers.
 

@@ -1,13 +1,11 @@
 -- How many workers hold a vertex and how many numbers are in bags: the table's test for a close by these counts.
 use mathlib.Core.Path.{◌≡◌, refl, sym, ap}
 use mathlib.Core.Bool.{Bool, true, false, ◌&&◌}
-use mathlib.Core.Logic.{⊎_elim}
 use mathlib.Core.List.{List, [], ◌∷◌, map, foldl}
 use Prim.Native.Nat.{ℕ, zero, suc, ◌+◌, ◌≤◌, ◌<◌}
 use native.Mathlib.Nat.{zero-add}
 use native.Mathlib.Omega.{arith}
 use borrow.Author.Tests.{eq-eqb, ne_eqb}
-use types.Run.{OneOf}
 use lib.Dec.{eqb}
 use lib.ListN.{length, get_or, set, take}
 use lib.Seq.{length-take-le, get_or-take, take-set-lt}
@@ -32,12 +30,6 @@ held_one (Holding u e f) h = refl
 held_one (InHand u e f t) h = refl
 held_one (Marked u e f t) h = refl
 held_one (Named u e f t) h = refl
-
--- as its tag tells
-pub held_told : (tag : Phase → ℕ) → tag Free ≡ 0 → (phase : Phase) → OneOf (1 ∷ 2 ∷ 3 ∷ 4 ∷ []) (tag phase) → phase ≡ Free → ⊥
-held_told tag none phase told free =
-    ⊎_elim (λ e. omega (arith, ap tag free))
-    (λ k. ⊎_elim (λ e. omega (arith, ap tag free)) (λ k. ⊎_elim (λ e. omega (arith, ap tag free)) (λ e. omega (arith, ap tag free)) k) k) told
 
 -- All phases.
 

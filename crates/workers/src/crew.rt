@@ -12,10 +12,10 @@ use bag::Bag;
 pub fn used_up(next: Phase) -> usize
     ensures { result + held_of next ≡ 1 }
 {
-    if let Phase::Free = next {
-        return 1;
+    match next {
+        Phase::Free => 1,
+        _ => 0,
     }
-    0
 }
 
 // "output bags 0 to P - 1 are united in that order into worker 0's input bag".
@@ -32,11 +32,8 @@ pub fn gather(
         left.old right.old left.new right.new result }
 {
     let mut bag = first;
-    let mut next = 0;
-    while next < workers {
-        let united = bag::union(bag, outputs[next], left, right);
-        bag = united;
-        next += 1;
+    for output in &outputs[..workers] {
+        bag = bag::union(bag, *output, left, right);
     }
     bag
 }
@@ -55,6 +52,5 @@ pub fn first_of_eight(bag: Bag) -> [Bag; 8]
 pub fn all_free() -> [Phase; 8]
     ensures { result ≡ all_free }
 {
-    let free = Phase::Free;
-    [free; 8]
+    [Phase::Free; 8]
 }

@@ -10,7 +10,6 @@ ghost use Rattle.workers.specs.Steps.{Countable, count_marked, counts_after};
 
 use crate::{Begun, Phase, Stowed};
 use bag::Bag;
-use graph::words::{element, wide16};
 use lists::{at, put};
 
 // The phase at this edge of the vertex: "A device whose links are used up frees its worker."
@@ -81,7 +80,7 @@ pub fn advance(
     ensures histogram_after { histogram.new ≡ counts_after phase layer distances.old histogram.old }
 {
     match phase {
-        Phase::Free => phase,
+        Phase::Free | Phase::Named { .. } => phase,
         Phase::Holding { vertex, edge, end } => look(vertex, edge, end, targets, distances),
         Phase::InHand {
             vertex,
@@ -111,12 +110,6 @@ pub fn advance(
                 target,
             }
         }
-        Phase::Named {
-            vertex: _,
-            edge: _,
-            end: _,
-            target: _,
-        } => phase,
     }
 }
 
@@ -137,8 +130,8 @@ pub fn begin(input: Bag, offsets: &[u16], left: &mut [u16], right: &[u16], value
         input: rest,
         phase: hold(
             vertex,
-            wide16(at(offsets, vertex)),
-            element(offsets, wide16(vertex) + 1),
+            usize::from(at(offsets, vertex)),
+            usize::from(offsets[usize::from(vertex) + 1]),
         ),
     }
 }

@@ -12,11 +12,8 @@ pub fn can_split(taker: Bag, giver: Bag) -> bool
     ensures { (left right values : List ℕ) → Pooled left right (giver ∷ taker ∷ [])
         → result ≡ (is_empty (held_by left right values taker) && at_least_two (held_by left right values giver)) }
 {
-    let filled = !bag::is_empty(taker);
-    if filled {
-        return false;
-    }
-    bag::at_least_two(giver)
+    let empty = bag::is_empty(taker);
+    empty && bag::at_least_two(giver)
 }
 
 // Kind 2: "w's output bag is united into v's and left empty, if neither was empty": the giver is w,
@@ -26,8 +23,5 @@ pub fn can_unite(giver: Bag, taker: Bag) -> bool
         → result ≡ (not (is_empty (held_by left right values giver))
         && not (is_empty (held_by left right values taker))) }
 {
-    if bag::is_empty(giver) {
-        return false;
-    }
-    !bag::is_empty(taker)
+    !bag::is_empty(giver) && !bag::is_empty(taker)
 }

@@ -1,14 +1,13 @@
 -- Facts about words that are stored in a list of bytes one after the other, from the front.
 use mathlib.Core.Path.{◌≡◌, refl, ap, ◌∙◌, subst}
 use mathlib.Core.List.{List, [], ◌∷◌}
-use Prim.Native.Nat.{ℕ, zero, suc, ◌+◌, ◌*◌, ◌/◌, ◌%◌, ◌≤◌, ◌<◌, zero-le}
+use Prim.Native.Nat.{ℕ, zero, suc, ◌+◌, ◌*◌, ◌/◌, ◌%◌, ◌≤◌, ◌<◌}
 use native.Mathlib.Nat.{le_of_suc-le-suc, not-suc-le-zero}
 use native.Mathlib.Numerals.{add-one}
 use native.Mathlib.Omega.{arith}
-use lib.ListN.{length, get_or, set, take, length-set}
-use lib.Seq.{length-take-le}
+use lib.ListN.{length, get_or, set, take}
 use Rattle.lists.specs.Lists.{overlay}
-use Rattle.lists.proofs.Overlay.{overlay_suc, overlay_all, overlay_again, overlay_here}
+use Rattle.lists.proofs.Overlay.{overlay_suc, overlay_all}
 use Rattle.lists.proofs.Rows.{Two, two_later}
 use Rattle.graph.specs.Encode.{bytes_of}
 use Rattle.graph.proofs.EncodeFacts.{length_bytes}
@@ -33,53 +32,25 @@ put_word words file i w h k e =
 -- the list `old` has become `file`: the first i of the words are written over it, and there is room for all of them
 pub record Begun (words old file : List ℕ) (i : ℕ) : Type 0 where
   pub bytes : file ≡ overlay (take (2 * i) (bytes_of words)) old
-  pub same : length file ≡ length old
-  pub inside : i ≤ length words
   pub room : 2 * length words ≤ length old
 
 -- none is written
 pub begun_none : (words file : List ℕ) → 2 * length words ≤ length file → Begun words file file 0
 unfolding overlay
-begun_none words file h = record { bytes = refl; same = refl; inside = zero-le; room = h }
-
--- the length of what is written
-length_begun : (words : List ℕ) (i : ℕ) → i ≤ length words → length (take (2 * i) (bytes_of words)) ≡ 2 * i
-length_begun words i h = length-take-le (2 * i) (bytes_of words) (omega (arith, length_bytes words))
+begun_none words file h = record { bytes = refl; room = h }
 
 module _ {words old file : List ℕ} {i : ℕ} (done : Begun words old file i) where
   -- one word more, by `put`
   pub begun_put : (w : ℕ) {put : List ℕ} → i < length words → w ≡ get_or words i 0 → put ≡ set (set file (2 * i) (w % 256)) (2 * i + 1) (w / 256) → Begun words old put (i + 1)
   begun_put w h e s =
-      let stored : List ℕ = set file (2 * i) (w % 256) in
       record {
         bytes = s ∙ ap (λ (l : List ℕ). set (set l (2 * i) (w % 256)) (2 * i + 1) (w / 256)) done.bytes ∙ put_word words old i w h done.room e;
-        same = ap length s ∙ length-set stored (2 * i + 1) (w / 256) ∙ length-set file (2 * i) (w % 256) ∙ done.same;
-        inside = omega arith;
         room = done.room;
       }
 
   -- as many, counted otherwise
   pub begun_count : {j : ℕ} → i ≡ j → Begun words old file j
   begun_count e = subst (λ (n : ℕ). Begun words old file n) e done
-
-  -- what is written may be written again
-  pub begun_here : Begun words file file i
-  begun_here = record {
-    bytes = overlay_here (take (2 * i) (bytes_of words)) old done.bytes;
-    same = refl;
-    inside = done.inside;
-    room = omega (arith, done.room, done.same);
-  }
-
-  -- more is written over it
-  pub begun_more : {more : List ℕ} {j : ℕ} → i ≤ j → Begun words file more j → Begun words old more j
-  begun_more {more} {j} h next = record {
-    bytes = next.bytes ∙ ap (overlay (take (2 * j) (bytes_of words))) done.bytes
-        ∙ overlay_again (take (2 * j) (bytes_of words)) (take (2 * i) (bytes_of words)) old (omega (arith, length_begun words i done.inside, length_begun words j next.inside));
-    same = next.same ∙ done.same;
-    inside = next.inside;
-    room = done.room;
-  }
 
   -- all is written
   pub begun_all : length words ≤ i → file ≡ overlay (bytes_of words) old

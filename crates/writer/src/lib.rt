@@ -4,6 +4,7 @@
 #![tactic(auto)]
 
 ghost use Rattle.std.specs.Prelude.{◌≡◌, ◌+◌, ◌*◌, ◌<◌, ◌≤◌, length, take};
+ghost use Rattle.numbers.specs.Told.{told};
 ghost use Rattle.lists.specs.Lists.{overlay, reaches, falls_from};
 ghost use Rattle.graph.specs.Graph.{rows_of};
 ghost use Rattle.graph.specs.File.{file_length};
@@ -14,22 +15,23 @@ ghost use Rattle.writer.specs.Steps.{WellFormed, index_after};
 
 use graph::steps::outside_sizes;
 use graph::words::{element, put};
+use numbers::Refused;
 
-// 11, then 20; otherwise the bytes of the file, and 0.
-pub fn write(offsets: &[u16], targets: &[u16], file: &mut [u8]) -> usize
-    ensures { write_exit result file.new
+// 11, then 20; otherwise the bytes of the file are written.
+pub fn write(offsets: &[u16], targets: &[u16], file: &mut [u8]) -> Result<(), Refused>
+    ensures { write_exit (told result) file.new
         ≡ outcome_of_write offsets.now targets.now file.old }
 {
     if malformed(offsets, targets) {
-        return numbers::BAD_ROWS;
+        return Err(Refused::BadRows);
     }
     let n = offsets.len() - 1;
     if file.len() < 2 * (2 + n + 2 * targets.len()) {
-        return numbers::SHORT_LIST;
+        return Err(Refused::ShortList);
     }
     put_heads(offsets, targets, n, file);
     put_records(offsets, targets, n, file);
-    numbers::SUCCESS
+    Ok(())
 }
 
 // Whether the rows are malformed: 11.
@@ -59,31 +61,14 @@ fn malformed(offsets: &[u16], targets: &[u16]) -> bool
 fn falls(offsets: &[u16]) -> bool
     ensures { result ≡ falls_from 0 offsets.now }
 {
-    let mut last = 0;
-    let mut i = 0;
-    while i < offsets.len() {
-        let offset = element(offsets, i);
-        if offset < last {
-            return true;
-        }
-        last = offset;
-        i += 1;
-    }
-    false
+    !offsets.is_sorted()
 }
 
 // Whether a target is `limit` or more.
 fn any_target_reaches(targets: &[u16], limit: usize) -> bool
     ensures { result ≡ reaches limit targets.now }
 {
-    let mut i = 0;
-    while i < targets.len() {
-        if limit <= element(targets, i) {
-            return true;
-        }
-        i += 1;
-    }
-    false
+    targets.iter().any(|target| limit <= usize::from(*target))
 }
 
 // The index of the record that stands after k records, or 0 where the row ends there.
@@ -108,11 +93,9 @@ fn put_heads(offsets: &[u16], targets: &[u16], n: usize, file: &mut [u8])
 {
     put(file, 0, n);
     put(file, 1, targets.len());
-    let mut vertex = 0;
-    while vertex < n {
+    for vertex in 0..n {
         let head = index_after(element(offsets, vertex), element(offsets, vertex + 1));
         put(file, 2 + vertex, head);
-        vertex += 1;
     }
 }
 
@@ -124,17 +107,12 @@ fn put_records(offsets: &[u16], targets: &[u16], n: usize, file: &mut [u8])
     ensures { file.new
         ≡ overlay (encode (rows_of offsets.now targets.now)) file.old }
 {
-    let mut vertex = 0;
-    let mut k = 0;
-    while vertex < n {
+    for vertex in 0..n {
         let end = element(offsets, vertex + 1);
-        if k == end {
-            vertex += 1;
-        } else {
+        for k in element(offsets, vertex)..end {
             let place = 2 + n + 2 * k;
             put(file, place, element(targets, k));
             put(file, place + 1, index_after(k + 1, end));
-            k += 1;
         }
     }
 }

@@ -1,6 +1,7 @@
 -- `capi::hopmap_read` meets its contract: the reader's answer is small, and its list holds it.
 use Rattle.capi.proofs.Small.{read_small}
-use Rattle.capi.proofs.Told.{read_told}
+use mathlib.Core.Path.{◌∙◌}
+use Rattle.capi.proofs.Told.{read_number_told, read_told}
 use Rattle.capi.proofs.hopmap_read.Goals as goal
 
 pub tell_read-requires : goal.tell_read-requires
@@ -13,5 +14,5 @@ returns c =
     let facts = read_told c.tell_read.ensures c.read-read.ensures in
     record {
       marks_after = facts.0;
-      value = facts.1;
+      value = c.told.ensures ∙ read_number_told c.read-read.result ∙ facts.1;
     }

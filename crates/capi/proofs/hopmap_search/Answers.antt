@@ -2,6 +2,7 @@
 use Rattle.model.specs.Call.{Lent}
 use Rattle.search.specs.Promise.{lent_lists}
 use Rattle.capi.proofs.Small.{search_small}
+use mathlib.Core.Path.{◌∙◌}
 use Rattle.capi.proofs.Told.{search_told}
 use Rattle.capi.proofs.hopmap_search.Goals.{Start}
 use Rattle.capi.proofs.hopmap_search.Goals as goal
@@ -25,4 +26,4 @@ returns c =
     let facts =
     search_told a.file.now a.source a.workers a.schedule.now (lent_of (goal.at.returns c).Start) c.tell_search.ensures
     (promised.values_after, promised.kept) in
-    record { values_after = facts.0; kept = facts.1.0; value = facts.1.1 }
+    record { values_after = facts.0; kept = facts.1.0; value = c.number.ensures ∙ facts.1.1 }

@@ -1,14 +1,10 @@
--- `schedule::bytes_that_fit` meets its contract. The invariant: of the bytes that were looked up, the list says whether they fit. The measure
--- is how many bytes are left.
+-- `schedule::bytes_that_fit`: of the bytes that were looked up, the list says whether they fit.
 use mathlib.Core.Path.{◌≡◌}
 use mathlib.Core.Bool.{false}
-use Prim.Native.Nat.{ℕ, ◌-◌, ◌≤◌, ◌<◌}
+use Prim.Native.Nat.{ℕ, ◌<◌}
 use lib.ListN.{length, get_or}
 use Rattle.schedule.specs.Events.{event_of, within}
 use Rattle.schedule.proofs.bytes_that_fit.Given as goal
 
 abbrev pub invariant-loop-byte : goal.invariant-loop-byte
-invariant-loop-byte l = (l.byte ≤ 256) × (length l.fits ≡ 256) × ((k : ℕ) → k < l.byte → get_or l.fits k false ≡ within l.workers (event_of k))
-
-abbrev pub decreases-loop-byte : goal.decreases-loop-byte
-decreases-loop-byte l = 256 - l.byte
+invariant-loop-byte l = (length l.fits ≡ 256) × ((k : ℕ) → k < l.byte → get_or l.fits k false ≡ within l.workers (event_of k))

@@ -1,14 +1,7 @@
--- `text::put_field` meets its contract: the digits that the kit makes are those of the number in decimal; they stand in their columns, and one byte
--- stands behind them.
-use mathlib.Core.Path.{◌≡◌, ap, ◌∙◌}
-use mathlib.Core.List.{List, [], ◌∷◌}
-use Prim.Native.Nat.{ℕ}
-use native.Mathlib.Omega.{arith}
-use lib.ListN.{length, take}
-use borrow.Author.Rules.{rules}
-use Rattle.text.specs.Text.{decimal, right_aligned}
+-- `text::put_field` meets its contract: the digits that the kit makes are those of the number in decimal.
+use Rattle.std.proofs.Common.{◌≡◌, ◌∙◌, take, rules}
+use Rattle.text.specs.Text.{decimal}
 use Rattle.text.proofs.DecimalFacts.{digits_decimal, fewest_twenty}
-use Rattle.text.proofs.PrintFacts.{prints_then, prints_same}
 use Rattle.text.proofs.put_field.Goals.{After-decimal-count}
 use Rattle.text.proofs.put_field.Goals as goal
 
@@ -19,22 +12,8 @@ made c =
     let fewest = c.decimal-count.ensures.len in
     c.decimal-count.ensures.digits ∙ digits_decimal count c.args.x fewest (fewest_twenty count c.args.x fewest (search rules))
 
-pub put_aligned-next-requires : goal.put_aligned-next-requires
-put_aligned-next-requires c = record {
-  width_bound = c.requires.width_bound;
-  text_in_bounds = omega (arith, ap length (made (goal.at.put_aligned-next-requires c).After-decimal-count));
-}
-
-pub put_byte-requires : goal.put_byte-requires
-put_byte-requires c = omega (arith, ap length (made (goal.at.put_byte-requires c).After-decimal-count))
+pub put_aligned-requires : goal.put_aligned-requires
+put_aligned-requires c = rw (made (goal.at.put_aligned-requires c).After-decimal-count) c.requires
 
 pub returns : goal.returns
-returns c =
-    let shown = made (goal.at.returns c).After-decimal-count in
-    let a = c.args in
-    let text : List ℕ = right_aligned a.width (decimal a.x) in
-    let first = prints_same c.put_aligned-next.ensures.prints (ap (right_aligned a.width) shown) in
-    record {
-      value = omega (arith, ap length shown);
-      prints = prints_then text (a.delimiter ∷ []) first c.put_byte.ensures.prints;
-    }
+returns c = rw (made (goal.at.returns c).After-decimal-count) at c.put_aligned.ensures

@@ -1,41 +1,44 @@
--- `writer::falls` meets its contract. The loop's invariant: the whole list falls where the rest from i on, judged against the
--- last offset passed, does. The measure is what is left of the list.
-use mathlib.Core.Bool.{◌||◌}
-use mathlib.Core.Path.{◌≡◌, refl, sym, ◌∙◌}
-use Prim.Native.Nat.{◌+◌}
+-- `writer::falls` meets its contract: the offsets fall where they are not sorted.
+use mathlib.Core.Bool.{Bool, true, false, not, or-true}
+use mathlib.Core.Path.{◌≡◌, refl, sym}
+use mathlib.Core.List.{List, [], ◌∷◌}
+use Prim.Native.Nat.{ℕ, zero, suc, ◌+◌, ◌≤◌, ◌<◌}
+use native.Mathlib.Numerals.{add-one}
 use native.Mathlib.Omega.{arith}
-use lib.Dec.{ltb}
-use lib.ListN.{drop}
+use lib.ListN.{length, get_or}
 use borrow.Author.Tests.{lt-ltb, le-ltb}
+use Rattle.std.specs.List.Sorted.{IsNonDecreasing}
+use Rattle.std.proofs.Common.{MatchBool}
+use Rattle.std.proofs.lemmas.List.Sorted.{non_decreasing_from_is_sorted}
 use Rattle.lists.specs.Lists.{falls_from}
-use Rattle.lists.proofs.Or.{or_found, or_passed}
-use Rattle.lists.proofs.Rows.{falls_more, falls_end}
-use Rattle.writer.proofs.falls.Goals.{After-element-offset}
 use Rattle.writer.proofs.falls.Goals as goal
 
--- what a turn finds out of the whole test
-turn : (c : After-element-offset)
-    → falls_from 0 c.args.offsets.now
-    ≡ ltb c.element-offset.result c.loop-i.last || falls_from c.element-offset.result (drop (c.loop-i.i + 1) c.args.offsets.now)
-turn c = c.loop-i.invariant ∙ falls_more _ _ _ _ c.loop-i-test.true c.element-offset.ensures.value
+-- sorted numbers, the first of them `last` or more, don't fall
+sorted_stay : (last : ℕ) (xs : List ℕ) → IsNonDecreasing (last ∷ xs) → falls_from last xs ≡ false
+unfolding falls_from
+sorted_stay last [] rise = refl
+sorted_stay last (x ∷ xs) rise =
+    let next : last ≤ x = rise 0 1 0 (omega arith) (omega arith) in
+    rw (le-ltb x last next) (sorted_stay x xs (λ i j d below inside. rise (suc i) (suc j) d (omega arith) (omega arith)))
 
-pub loop-i-init : goal.loop-i-init
-loop-i-init c = refl
+-- the first of all is 0 or more
+from_zero : (xs : List ℕ) → IsNonDecreasing xs → falls_from 0 xs ≡ false
+unfolding falls_from
+from_zero [] rise = refl
+from_zero (x ∷ xs) rise = rw (le-ltb x 0 (omega arith)) (sorted_stay x xs rise)
 
-pub element-offset-requires : goal.element-offset-requires
-element-offset-requires c = omega arith
+-- with one less than the one before it they fall
+pair_falls : (last : ℕ) (xs : List ℕ) (k : ℕ) → suc k < length xs → get_or xs (suc k) 0 < get_or xs k 0 → falls_from last xs ≡ true
+unfolding falls_from
+pair_falls last [] k h less = absurd (omega arith)
+pair_falls last (x ∷ []) k h less = absurd (omega arith)
+pair_falls last (x ∷ y ∷ xs) zero h less = rw (lt-ltb y x less, or-true)
+pair_falls last (x ∷ y ∷ xs) (suc k) h less = rw (pair_falls x (y ∷ xs) k (omega arith) less, or-true)
 
-pub returns-then-offset-last : goal.returns-then-offset-last
-returns-then-offset-last c = or_found _ _ (turn (goal.at.returns-then-offset-last c).After-element-offset) (lt-ltb _ _ c.if-offset-last.true)
-
-pub overflow_add-i : goal.overflow_add-i
-overflow_add-i c = omega arith
-
-pub loop-i-smaller : goal.loop-i-smaller
-loop-i-smaller c = omega arith
-
-pub loop-i-preserved : goal.loop-i-preserved
-loop-i-preserved c = or_passed _ _ (turn (goal.at.loop-i-preserved c).After-element-offset) (le-ltb _ _ c.if-offset-last.false)
+unsorted : (xs : List ℕ) (sorted : Bool) → MatchBool sorted (IsNonDecreasing xs) ((k : ℕ) × (k + 1 < length xs) × ((d : ℕ) → get_or xs (k + 1) d < get_or xs k d))
+    → not sorted ≡ falls_from 0 xs
+unsorted xs true rise = sym (from_zero xs rise)
+unsorted xs false pair = sym (pair_falls 0 xs pair.0 (rw add-one at pair.1) (rw add-one at (pair.2 0)))
 
 pub returns : goal.returns
-returns c = sym (c.loop-i.invariant ∙ falls_end _ _ _ c.loop-i-test.false)
+returns c = unsorted _ _ (non_decreasing_from_is_sorted c.args.offsets.now c.is_sorted.result c.is_sorted.ensures.cases)

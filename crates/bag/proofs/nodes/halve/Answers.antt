@@ -9,9 +9,6 @@ use Rattle.bag.proofs.nodes.halve.Goals as goal
 pub returns-then-x-eq0 : goal.returns-then-x-eq0
 returns-then-x-eq0 c = λ k p. halve_zero c.args.left.now c.args.right.now k c.args.x c.if-x-eq0.true
 
-pub at-requires : goal.at-requires
-at-requires c = rw c.at-y.ensures (c.requires.x_in_bounds_2 c.if-x-eq0.false)
-
 pub returns : goal.returns
 returns c =
     let a = c.args in

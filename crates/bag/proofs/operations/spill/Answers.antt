@@ -1,4 +1,4 @@
--- `bag::operations::spill` meets its contract. The invariant is Spilling (SpillFacts). The measure is k.
+-- `bag::operations::spill` meets its contract. The invariant is Spilling (SpillFacts).
 use borrow.Author.Rules.{rules}
 use native.Mathlib.Omega.{arith}
 use mathlib.Core.Path.{◌≡◌}

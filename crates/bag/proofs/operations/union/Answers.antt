@@ -1,12 +1,11 @@
--- `bag::operations::union` meets its contract. The invariant is Uniting (UnionFacts), which a slot that is added and one that is passed both keep. The measure
--- is 16 less k.
+-- `bag::operations::union` meets its contract. The invariant is Uniting (UnionFacts), which a slot that is added and one that is passed both keep.
 use borrow.Author.Rules.{rules}
 use native.Mathlib.Omega.{arith}
 use mathlib.Core.Path.{◌≡◌}
 use lib.ListN.{length}
 use Rattle.bag.proofs.Outcomes.{unites}
 use Rattle.bag.proofs.UnionFacts.{uniting_slot, uniting_other, uniting_carry, uniting_start, uniting_three, uniting_step, uniting_pass, uniting_done}
-use Rattle.bag.proofs.operations.union.Goals.{then-others-k-ne0, else-others-k-ne0+else-carry-ne0}
+use Rattle.bag.proofs.operations.union.Goals.{then-other-ne0, else-other-ne0+else-carry-ne0}
 use Rattle.bag.proofs.operations.union.Goals as goal
 
 pub loop-k-init : goal.loop-k-init
@@ -36,13 +35,13 @@ loop-k-preserved c =
     let three = uniting_three a.left.now a.right.now a.a.slots a.b.slots c.requires long now.left now.right now.slots now.carry now.k now.invariant test in
     let step = uniting_step a.left.now a.right.now a.a.slots a.b.slots c.requires long now.left now.right now.slots now.carry now.k now.invariant test in
     let pass = uniting_pass a.left.now a.right.now a.a.slots a.b.slots c.requires long now.left now.right now.slots now.carry now.k now.invariant test in
-    elim c.if-others-k-ne0.branch [
-      | then-others-k-ne0 w ↦
+    elim c.if-other-ne0.branch [
+      | then-other-ne0 w ↦
           let added = w.add-sum in
           rw (w.left-is, w.right-is, w.slots-is, w.carry-is)
           (step added.new.left added.new.right added.result.slot added.result.carry (added.ensures now.k three) added.auto.left added.auto.right)
-      | else-others-k-ne0+else-carry-ne0 w ↦
-          rw (w.left-is, w.right-is, w.slots-is, w.carry-is) (pass w.if-others-k-ne0.false w.if-carry-ne0.false)
+      | else-other-ne0+else-carry-ne0 w ↦
+          rw (w.left-is, w.right-is, w.slots-is, w.carry-is) (pass w.if-other-ne0.false w.if-carry-ne0.false)
     ]
 
 pub returns : goal.returns

@@ -1,11 +1,6 @@
--- `bag::operations::union` meets its contract. The invariant is Uniting (UnionFacts), which a slot that is added and one that is passed both keep. The measure
--- is 16 less k.
-use Prim.Native.Nat.{◌-◌}
+-- `bag::operations::union` meets its contract. The invariant is Uniting (UnionFacts), which a slot that is added and one that is passed both keep.
 use Rattle.bag.proofs.UnionFacts.{Uniting}
 use Rattle.bag.proofs.operations.union.Given as goal
 
 abbrev pub invariant-loop-k : goal.invariant-loop-k
-invariant-loop-k l = Uniting l.initial.left l.initial.right l.initial.slots l.others l.left l.right l.slots l.carry l.k
-
-abbrev pub decreases-loop-k : goal.decreases-loop-k
-decreases-loop-k l = 16 - l.k
+invariant-loop-k l = Uniting l.initial.left l.initial.right l.initial.slots l.other-items l.left l.right l.slots l.carry l.k

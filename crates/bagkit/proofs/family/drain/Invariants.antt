@@ -1,11 +1,6 @@
--- `bagkit::family::drain` meets its contract. The invariant: the pool is well-formed with the bags, and the lists keep their lengths. The
--- measure is what is left of `count`.
-use Rattle.std.proofs.Common.{◌≡◌, ◌-◌, length}
+-- `bagkit::family::drain` meets its contract. The invariant: the pool is well-formed with the bags.
 use Rattle.bag.specs.Promises.{Pooled}
 use Rattle.bagkit.proofs.family.drain.Given as goal
 
-abbrev pub invariant-loop-k : goal.invariant-loop-k
-invariant-loop-k l = Pooled l.left l.right l.rest × (length l.left ≡ length l.initial.left) × (length l.counts ≡ length l.initial.counts)
-
-abbrev pub decreases-loop-k : goal.decreases-loop-k
-decreases-loop-k l = l.count - l.k
+abbrev pub invariant-loop : goal.invariant-loop
+invariant-loop l = Pooled l.left l.right l.rest

@@ -3,15 +3,13 @@ use Rattle.std.proofs.Common.{sym, ◌∙◌, arith}
 use Rattle.bag.proofs.Family.{pool_one, family_one}
 use Rattle.bagkit.proofs.family.draw.Goals as goal
 
-pub take-taken-requires : goal.take-taken-requires
-take-taken-requires c =
+pub take-taken-requires-clause-pooled : goal.take-taken-requires-clause-pooled
+take-taken-requires-clause-pooled c = pool_one c.args.bags c.args.i c.requires.pooled (omega arith)
+
+pub take-taken-requires-clause-bag_value : goal.take-taken-requires-clause-bag_value
+take-taken-requires-clause-bag_value c =
     let pooled = pool_one c.args.bags c.args.i c.requires.pooled (omega arith) in
-    let tested = c.is_empty.ensures c.args.left.now c.args.right.now c.args.values.now pooled in
-    record {
-      pooled = pooled;
-      left_in_bounds = c.requires.left_in_bounds;
-      bag_value = sym tested ∙ c.if-is_empty.false;
-    }
+    sym (c.is_empty.ensures c.args.left.now c.args.right.now c.args.values.now pooled) ∙ c.if-is_empty.false
 
 pub returns : goal.returns
 returns c =

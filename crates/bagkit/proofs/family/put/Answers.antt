@@ -3,12 +3,8 @@ use Rattle.std.proofs.Common.{arith}
 use Rattle.bag.proofs.Family.{pool_one, family_one}
 use Rattle.bagkit.proofs.family.put.Goals as goal
 
-pub insert-requires : goal.insert-requires
-insert-requires c = record {
-  pooled = pool_one c.args.bags c.args.i c.requires.pooled (omega arith);
-  left_in_bounds = c.requires.left_in_bounds;
-  some_free = c.if-left-eq0-2.false;
-}
+pub insert-requires-clause-pooled : goal.insert-requires-clause-pooled
+insert-requires-clause-pooled c = pool_one c.args.bags c.args.i c.requires.pooled (omega arith)
 
 pub returns : goal.returns
 returns c =

@@ -1,5 +1,4 @@
--- `engine::run::run` meets its contract. The invariant: the engine's values are those of the model's run over the bytes so far (Going). The measure is
--- the bytes that are left.
+-- `engine::run::run` meets its contract. The invariant: the engine's values are those of the model's run over the bytes so far (Going).
 use borrow.Author.Rules.{rules}
 use native.Mathlib.Omega.{arith}
 use mathlib.Core.Path.{◌≡◌, sym, ◌∙◌}
@@ -14,7 +13,8 @@ use Rattle.engine.proofs.WorkFacts.{work_place, input_told, rest_on, begin_able,
 use Rattle.engine.proofs.WorkFacts.{Worked, begun_worked, stowed_worked, advanced_worked}
 use Rattle.engine.proofs.PairFacts.{split_places, split_able, split_on, split_unmet_on, unite_places, unite_able, unite_on, unite_unmet_on}
 use Rattle.engine.proofs.CloseFacts.{pending_on, gather_able, opened_on, finished_ran, spent_ran}
-use Rattle.engine.proofs.run.run.Goals.{After-look_up-event, After-open-source_bag, At-loop-used, In-Close, In-Split, In-Unite, In-Work, In_default-phase, Joined-phase, in-Free+else-is_empty, in_default+in-Named, in_default+in_default-phase}
+use Rattle.engine.proofs.run.run.Goals.{After-look_up-event, After-open-source_bag, At-loop-used, In-Close, In-Split, In-Unite, In-Work, In_default, Joined-phase, in-Free+else-is_empty, in-Named, in_default}
+use Rattle.engine.proofs.run.run.Goals.{in-Work, in-Split+then-can_split, in-Split+else-can_split, in-Unite+then-can_unite, in-Unite+else-can_unite, in-Close+then-pending-eq0+else-found-eq0, in-Close+else-pending-eq0, in-Malformed}
 use Rattle.engine.proofs.run.run.Goals as goal
 
 -- What is known there.
@@ -85,9 +85,9 @@ close_turn : (c : In-Close) → Turn-at (goal.at.In-Close c).After-look_up-event
 close_turn c = turn (goal.at.In-Close c).After-look_up-event c.in-Close.is
 
 -- a phase that is neither free nor named is one between
-between : (c : In_default-phase) → Between c.args.targets.now (length c.loop-used.distances) (get_or c.loop-used.phases c.in-Work.w Free)
+between : (c : In_default) → Between c.args.targets.now (length c.loop-used.distances) (get_or c.loop-used.phases c.in-Work.w Free)
 between c =
-    between_now (work_turn (goal.at.In_default-phase c).In-Work) c.in_default.not-Free c.in_default-phase.not-Named
+    between_now (work_turn (goal.at.In_default c).In-Work) c.in_default.not-Free c.in_default.not-Named
 
 -- what a worker's move left, whichever it was: the lists, the bags, the phases, and how many were found
 moved : (c : Joined-phase) → let after = c.match-phase in
@@ -99,12 +99,12 @@ moved c =
       | in-Free+else-is_empty w ↦
           rw (w.distances-is, w.parents-is, w.histogram-is, w.left-is, w.right-is, w.values-is, w.inputs-is, w.outputs-is, w.phases-is, w.found-is)
           (begun_worked worker w.in-Free.is (input_told worker w.is_empty.ensures ∙ w.if-is_empty.false) w.begin-begun.ensures)
-      | in_default+in-Named w ↦
+      | in-Named w ↦
           rw (w.distances-is, w.parents-is, w.histogram-is, w.left-is, w.right-is, w.values-is, w.inputs-is, w.outputs-is, w.phases-is, w.found-is)
           (stowed_worked worker w.in-Named.is w.stow-stowed.ensures.inserted w.stow-stowed.ensures.by_index)
-      | in_default+in_default-phase w ↦
+      | in_default w ↦
           rw (w.distances-is, w.parents-is, w.histogram-is, w.left-is, w.right-is, w.values-is, w.inputs-is, w.outputs-is, w.phases-is, w.found-is)
-          (advanced_worked worker (between_now worker w.in_default.not-Free w.in_default-phase.not-Named) w.advance-next.ensures.by_index w.advance-next.ensures.histogram_after)
+          (advanced_worked worker (between_now worker w.in_default.not-Free w.in_default.not-Named) w.advance.ensures.by_index w.advance.ensures.histogram_after)
     ]
 
 -- The goals.
@@ -191,9 +191,9 @@ bounds-phases-w-in-Named c = work_place (work_turn (goal.at.bounds-phases-w-in-N
 pub overflow_add-found : goal.overflow_add-found
 overflow_add-found c = record { fits = found_fits (work_turn (goal.at.overflow_add-found c).In-Work) c.in-Named.is }
 
-pub advance-next-requires : goal.advance-next-requires
-advance-next-requires c =
-    let facts = advance_able (work_turn (goal.at.advance-next-requires c).In-Work) (between (goal.at.advance-next-requires c).In_default-phase) in
+pub advance-requires : goal.advance-requires
+advance-requires c =
+    let facts = advance_able (work_turn (goal.at.advance-requires c).In-Work) (between (goal.at.advance-requires c).In_default) in
     record {
       parents_len = facts.0;
       layer_bound = facts.1.0;
@@ -201,11 +201,11 @@ advance-next-requires c =
       countable = facts.1.1.1;
     }
 
-pub offset_bounds-phases-w-in_default-phase : goal.offset_bounds-phases-w-in_default-phase
-offset_bounds-phases-w-in_default-phase c = place_fits 32 (work_place (work_turn (goal.at.offset_bounds-phases-w-in_default-phase c).In-Work)) (search rules)
+pub offset_bounds-phases-w-in_default : goal.offset_bounds-phases-w-in_default
+offset_bounds-phases-w-in_default c = place_fits 32 (work_place (work_turn (goal.at.offset_bounds-phases-w-in_default c).In-Work)) (search rules)
 
-pub bounds-phases-w-in_default-phase : goal.bounds-phases-w-in_default-phase
-bounds-phases-w-in_default-phase c = work_place (work_turn (goal.at.bounds-phases-w-in_default-phase c).In-Work)
+pub bounds-phases-w-in_default : goal.bounds-phases-w-in_default
+bounds-phases-w-in_default c = work_place (work_turn (goal.at.bounds-phases-w-in_default c).In-Work)
 
 pub offset_bounds-phases-w-in-Work : goal.offset_bounds-phases-w-in-Work
 offset_bounds-phases-w-in-Work c = place_fits 32 (work_place (work_turn (goal.at.offset_bounds-phases-w-in-Work c).In-Work)) (search rules)
@@ -218,12 +218,6 @@ overflow_sub-pending c = omega (arith, c.used_up-pending.ensures, some_pending (
 
 pub overflow_add-effective : goal.overflow_add-effective
 overflow_add-effective c = record { fits = effective_fits (work_turn (goal.at.overflow_add-effective c).In-Work) }
-
-pub loop-used-smaller-in-Work : goal.loop-used-smaller-in-Work
-loop-used-smaller-in-Work c = omega (arith, c.loop-used.invariant.within)
-
-pub loop-used-preserved-in-Work : goal.loop-used-preserved-in-Work
-loop-used-preserved-in-Work c = worked_on (work_turn (goal.at.loop-used-preserved-in-Work c).In-Work) c.used_up-pending.result (moved (goal.at.loop-used-preserved-in-Work c).Joined-phase) c.used_up-pending.ensures
 
 pub offset_bounds-inputs-w-in-Split : goal.offset_bounds-inputs-w-in-Split
 offset_bounds-inputs-w-in-Split c = place_fits 32 (split_places (split_turn (goal.at.offset_bounds-inputs-w-in-Split c).In-Split)).0 (search rules)
@@ -263,12 +257,6 @@ overflow_add-effective-then-can_split c = record {
   fits = effective_fits (split_turn (goal.at.overflow_add-effective-then-can_split c).In-Split);
 }
 
-pub loop-used-preserved-then-can_split : goal.loop-used-preserved-then-can_split
-loop-used-preserved-then-can_split c = split_on (split_turn (goal.at.loop-used-preserved-then-can_split c).In-Split) c.can_split.ensures c.if-can_split.true c.split-halves.ensures
-
-pub loop-used-preserved-else-can_split : goal.loop-used-preserved-else-can_split
-loop-used-preserved-else-can_split c = split_unmet_on (split_turn (goal.at.loop-used-preserved-else-can_split c).In-Split) c.can_split.ensures c.if-can_split.false
-
 pub offset_bounds-outputs-w-in-Unite : goal.offset_bounds-outputs-w-in-Unite
 offset_bounds-outputs-w-in-Unite c = place_fits 32 (unite_places (unite_turn (goal.at.offset_bounds-outputs-w-in-Unite c).In-Unite)).0 (search rules)
 
@@ -293,8 +281,8 @@ offset_bounds-outputs-w-then-can_unite c = place_fits 32 (unite_places (unite_tu
 pub bounds-outputs-w-then-can_unite : goal.bounds-outputs-w-then-can_unite
 bounds-outputs-w-then-can_unite c = (unite_places (unite_turn (goal.at.bounds-outputs-w-then-can_unite c).In-Unite)).0
 
-pub union-united-requires : goal.union-united-requires
-union-united-requires c = unite_able (unite_turn (goal.at.union-united-requires c).In-Unite)
+pub union-requires : goal.union-requires
+union-requires c = unite_able (unite_turn (goal.at.union-requires c).In-Unite)
 
 pub offset_bounds-outputs-v-then-can_unite-2 : goal.offset_bounds-outputs-v-then-can_unite-2
 offset_bounds-outputs-v-then-can_unite-2 c = place_fits 32 (unite_places (unite_turn (goal.at.offset_bounds-outputs-v-then-can_unite-2 c).In-Unite)).1 (search rules)
@@ -312,12 +300,6 @@ pub overflow_add-effective-then-can_unite : goal.overflow_add-effective-then-can
 overflow_add-effective-then-can_unite c = record {
   fits = effective_fits (unite_turn (goal.at.overflow_add-effective-then-can_unite c).In-Unite);
 }
-
-pub loop-used-preserved-then-can_unite : goal.loop-used-preserved-then-can_unite
-loop-used-preserved-then-can_unite c = unite_on (unite_turn (goal.at.loop-used-preserved-then-can_unite c).In-Unite) c.can_unite.ensures c.if-can_unite.true c.union-united.ensures c.empty-then-can_unite.ensures
-
-pub loop-used-preserved-else-can_unite : goal.loop-used-preserved-else-can_unite
-loop-used-preserved-else-can_unite c = unite_unmet_on (unite_turn (goal.at.loop-used-preserved-else-can_unite c).In-Unite) c.can_unite.ensures c.if-can_unite.false
 
 pub overflow_add-next : goal.overflow_add-next
 overflow_add-next c = record { fits = layer_fits (close_turn (goal.at.overflow_add-next c).In-Close).going }
@@ -356,16 +338,50 @@ gather-united-requires c =
       pooled = facts.1;
     }
 
-pub loop-used-preserved-then-pending-eq0 : goal.loop-used-preserved-then-pending-eq0
-loop-used-preserved-then-pending-eq0 c =
-    opened_on (close_turn (goal.at.loop-used-preserved-then-pending-eq0 c).In-Close) c.if-pending-eq0.true c.if-found-eq0.false c.gather-united.ensures
-    c.first_of_eight-inputs-then-pending-eq0.ensures c.empty-then-pending-eq0.ensures c.first_of_eight-outputs-then-pending-eq0.ensures c.all_free-phases-then-pending-eq0.ensures
-
-pub loop-used-preserved-else-pending-eq0 : goal.loop-used-preserved-else-pending-eq0
-loop-used-preserved-else-pending-eq0 c = pending_on (close_turn (goal.at.loop-used-preserved-else-pending-eq0 c).In-Close) c.if-pending-eq0.false
-
 pub loop-used-preserved : goal.loop-used-preserved
-loop-used-preserved c = malformed_on (turn (goal.at.loop-used-preserved c).After-look_up-event c.in-Malformed.is)
+loop-used-preserved c =
+    let looked = (goal.at.loop-used-preserved c).After-look_up-event in
+    elim c.match-event.branch [
+      | in-Work w ↦
+          let after = w.match-phase in
+          let worker = turn looked w.in-Work.is in
+          let made : Worked worker after.distances after.parents after.histogram after.left after.right after.values after.inputs after.outputs after.phases after.found =
+          elim after.branch [
+            | in-Free+else-is_empty v ↦
+                rw (v.distances-is, v.parents-is, v.histogram-is, v.left-is, v.right-is, v.values-is, v.inputs-is, v.outputs-is, v.phases-is, v.found-is)
+                (begun_worked worker v.in-Free.is (input_told worker v.is_empty.ensures ∙ v.if-is_empty.false) v.begin-begun.ensures)
+            | in-Named v ↦
+                rw (v.distances-is, v.parents-is, v.histogram-is, v.left-is, v.right-is, v.values-is, v.inputs-is, v.outputs-is, v.phases-is, v.found-is)
+                (stowed_worked worker v.in-Named.is v.stow-stowed.ensures.inserted v.stow-stowed.ensures.by_index)
+            | in_default v ↦
+                rw (v.distances-is, v.parents-is, v.histogram-is, v.left-is, v.right-is, v.values-is, v.inputs-is, v.outputs-is, v.phases-is, v.found-is)
+                (advanced_worked worker (between_now worker v.in_default.not-Free v.in_default.not-Named) v.advance.ensures.by_index v.advance.ensures.histogram_after)
+          ] in
+          rw (w.distances-is, w.parents-is, w.histogram-is, w.left-is, w.right-is, w.values-is, w.inputs-is, w.outputs-is, w.phases-is, w.pending-is, w.found-is, w.effective-is, w.layer-is)
+          (worked_on worker w.used_up-pending.result made w.used_up-pending.ensures)
+      | in-Split+then-can_split w ↦
+          rw (w.distances-is, w.parents-is, w.histogram-is, w.left-is, w.right-is, w.values-is, w.inputs-is, w.outputs-is, w.phases-is, w.pending-is, w.found-is, w.effective-is, w.layer-is)
+          (split_on (turn looked w.in-Split.is) w.can_split.ensures w.if-can_split.true w.split-halves.ensures)
+      | in-Split+else-can_split w ↦
+          rw (w.distances-is, w.parents-is, w.histogram-is, w.left-is, w.right-is, w.values-is, w.inputs-is, w.outputs-is, w.phases-is, w.pending-is, w.found-is, w.effective-is, w.layer-is)
+          (split_unmet_on (turn looked w.in-Split.is) w.can_split.ensures w.if-can_split.false)
+      | in-Unite+then-can_unite w ↦
+          rw (w.distances-is, w.parents-is, w.histogram-is, w.left-is, w.right-is, w.values-is, w.inputs-is, w.outputs-is, w.phases-is, w.pending-is, w.found-is, w.effective-is, w.layer-is)
+          (unite_on (turn looked w.in-Unite.is) w.can_unite.ensures w.if-can_unite.true w.union.ensures w.empty-then-can_unite.ensures)
+      | in-Unite+else-can_unite w ↦
+          rw (w.distances-is, w.parents-is, w.histogram-is, w.left-is, w.right-is, w.values-is, w.inputs-is, w.outputs-is, w.phases-is, w.pending-is, w.found-is, w.effective-is, w.layer-is)
+          (unite_unmet_on (turn looked w.in-Unite.is) w.can_unite.ensures w.if-can_unite.false)
+      | in-Close+then-pending-eq0+else-found-eq0 w ↦
+          rw (w.distances-is, w.parents-is, w.histogram-is, w.left-is, w.right-is, w.values-is, w.inputs-is, w.outputs-is, w.phases-is, w.pending-is, w.found-is, w.effective-is, w.layer-is)
+          (opened_on (turn looked w.in-Close.is) w.if-pending-eq0.true w.if-found-eq0.false w.gather-united.ensures
+          w.first_of_eight-inputs-then-pending-eq0.ensures w.empty-then-pending-eq0.ensures w.first_of_eight-outputs-then-pending-eq0.ensures w.all_free-phases-then-pending-eq0.ensures)
+      | in-Close+else-pending-eq0 w ↦
+          rw (w.distances-is, w.parents-is, w.histogram-is, w.left-is, w.right-is, w.values-is, w.inputs-is, w.outputs-is, w.phases-is, w.pending-is, w.found-is, w.effective-is, w.layer-is)
+          (pending_on (turn looked w.in-Close.is) w.if-pending-eq0.false)
+      | in-Malformed w ↦
+          rw (w.distances-is, w.parents-is, w.histogram-is, w.left-is, w.right-is, w.values-is, w.inputs-is, w.outputs-is, w.phases-is, w.pending-is, w.found-is, w.effective-is, w.layer-is)
+          (malformed_on (turn looked w.in-Malformed.is))
+    ]
 
 pub shape_of-distances : goal.shape_of-distances
 shape_of-distances c = (lengths (goal.at.shape_of-distances c).At-loop-used).of_distances

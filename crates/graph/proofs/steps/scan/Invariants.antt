@@ -1,11 +1,7 @@
--- `graph::steps::scan` meets its contract. The invariant is `Passing`, of the nexts behind the heads and of the targets. The measure is m less i. Each
--- return is one of the ways through the scan's refusals.
-use Prim.Native.Nat.{◌+◌, ◌-◌, ◌≤◌}
+-- `graph::steps::scan` meets its contract. The invariant is `Passing`, of the nexts behind the heads and of the targets.
+use Prim.Native.Nat.{◌+◌}
 use Rattle.graph.proofs.WordRuns.{Passing}
 use Rattle.graph.proofs.steps.scan.Given as goal
 
 abbrev pub invariant-loop-i : goal.invariant-loop-i
-invariant-loop-i l = (l.i ≤ l.m) × Passing l.file (l.n + 3) 2 l.m l.initial.index l.i l.index × Passing l.file (l.n + 2) 2 l.m l.initial.target l.i l.target
-
-abbrev pub decreases-loop-i : goal.decreases-loop-i
-decreases-loop-i l = l.m - l.i
+invariant-loop-i l = Passing l.file (l.n + 3) 2 l.m l.initial.index l.i l.index × Passing l.file (l.n + 2) 2 l.m l.initial.target l.i l.target

@@ -1,10 +1,6 @@
--- `graph::words::largest_word` meets its contract. The invariant is `Passing`. The measure is count less i.
-use Prim.Native.Nat.{◌-◌, ◌≤◌}
+-- `graph::words::largest_word` meets its contract. The invariant is `Passing`.
 use Rattle.graph.proofs.WordRuns.{Passing}
 use Rattle.graph.proofs.words.largest_word.Given as goal
 
 abbrev pub invariant-loop-i : goal.invariant-loop-i
-invariant-loop-i l = (l.i ≤ l.count) × Passing l.file l.place 1 l.count 0 l.i l.found
-
-abbrev pub decreases-loop-i : goal.decreases-loop-i
-decreases-loop-i l = l.count - l.i
+invariant-loop-i l = Passing l.file l.place 1 l.count 0 l.i l.found

@@ -1,6 +1,8 @@
 -- `page::call::page` meets its contract: each return is one of the ways out, and what is promised besides follows from its outcome.
-use mathlib.Core.Path.{◌≡◌}
+use mathlib.Core.Path.{◌≡◌, refl, sym, ◌∙◌}
 use native.Mathlib.Omega.{arith}
+use Rattle.numbers.specs.Told.{told}
+use Rattle.numbers.proofs.Numbering.{whole_same, broken_other}
 use Rattle.graph.specs.File.{vertex_count, edge_count}
 use Rattle.graph.specs.Steps.{Sized}
 use Rattle.verify.specs.Check.{CheckLent}
@@ -16,18 +18,23 @@ lent_of s =
     let a = s.args in
     lent_lists a.offsets.now a.targets.now a.marks.now
 
+-- the checker found nothing
+whole : (c : Else-refused) → told c.check-checked.result ≡ 0
+whole c = whole_same _ _ c.check-checked.result (sym c.ne-refused.ensures ∙ c.if-refused.false)
+
 pub returns-then-refused : goal.returns-then-refused
 returns-then-refused c =
     let a = c.args in
-    let e = page_refused a.file.now a.source a.distances.now a.parents.now (lent_of (goal.at.returns-then-refused c).Start) a.bytes.now c.check-checked.ensures.marks_after c.if-refused.true in
+    let e = page_refused a.file.now a.source a.distances.now a.parents.now (lent_of (goal.at.returns-then-refused c).Start) a.bytes.now c.check-checked.ensures.marks_after
+    (broken_other _ _ c.check-checked.result refl (sym c.ne-refused.ensures ∙ c.if-refused.true)) in
     record {
       bytes_after = e;
       on_paper = page_on_paper a.file.now a.source a.distances.now a.parents.now (lent_of (goal.at.returns-then-refused c).Start) a.bytes.now e;
     }
 
--- the checker found nothing: what that tells of the input
+-- what that tells of the input
 passed : (c : Else-refused) → Passed c.args.file.now c.args.source c.args.distances.now c.args.parents.now (lent_of (goal.at.Else-refused c).Start)
-passed c = (c.check-checked.ensures.judged.accepted c.if-refused.false).0
+passed c = (c.check-checked.ensures.judged.accepted (whole c)).0
 
 -- n and m are within their sizes
 sized : (c : Else-refused) → let file = c.args.file.now in Sized file (vertex_count file) (edge_count file)
@@ -50,7 +57,7 @@ pub returns-then-bytes-page_need : goal.returns-then-bytes-page_need
 returns-then-bytes-page_need c =
     let a = c.args in
     let e = page_short_lem a.file.now a.source a.distances.now a.parents.now (lent_of (goal.at.returns-then-bytes-page_need c).Start) a.bytes.now c.check-checked.ensures.marks_after
-    c.if-refused.false (counted (goal.at.returns-then-bytes-page_need c).After-word-n) (omega (arith, c.page_need.ensures, c.if-bytes-page_need.true)) in
+    (whole (goal.at.returns-then-bytes-page_need c).Else-refused) (counted (goal.at.returns-then-bytes-page_need c).After-word-n) (omega (arith, c.page_need.ensures, c.if-bytes-page_need.true)) in
     record {
       bytes_after = e;
       on_paper = page_on_paper a.file.now a.source a.distances.now a.parents.now (lent_of (goal.at.returns-then-bytes-page_need c).Start) a.bytes.now e;
@@ -73,7 +80,7 @@ pub returns : goal.returns
 returns c =
     let a = c.args in
     let e = page_printed a.file.now a.source a.distances.now a.parents.now (lent_of (goal.at.returns c).Start) a.bytes.now c.check-checked.ensures.marks_after
-    c.if-refused.false (counted (goal.at.returns c).After-word-n) (omega (arith, c.page_need.ensures, c.if-bytes-page_need.false)) c.put_pages.ensures.prints in
+    (whole (goal.at.returns c).Else-refused) (counted (goal.at.returns c).After-word-n) (omega (arith, c.page_need.ensures, c.if-bytes-page_need.false)) c.put_pages.ensures.prints in
     record {
       bytes_after = e;
       on_paper = page_on_paper a.file.now a.source a.distances.now a.parents.now (lent_of (goal.at.returns c).Start) a.bytes.now e;

@@ -2,19 +2,11 @@
 use mathlib.Core.Path.{ap}
 use mathlib.Core.List.{List, [], ◌∷◌, ◌++◌}
 use Prim.Native.Nat.{ℕ}
-use native.Mathlib.Omega.{arith}
 use Rattle.text.specs.Text.{line_feed, decimal}
-use Rattle.text.proofs.DecimalFacts.{decimal_most}
 use Rattle.text.proofs.PrintFacts.{prints_same}
 use Rattle.text.proofs.TextFacts.{unaligned}
 use Rattle.page_report.specs.Respond.{number_line}
 use Rattle.page_report.proofs.program.put_number_line.Goals as goal
-
-pub put_field-requires : goal.put_field-requires
-put_field-requires c = record {
-  width_bound = omega (arith, decimal_most c.args.number);
-  x_in_bounds = omega (arith, decimal_most c.args.number);
-}
 
 pub returns : goal.returns
 unfolding number_line

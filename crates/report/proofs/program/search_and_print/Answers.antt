@@ -1,21 +1,18 @@
 -- `report::program::search_and_print` meets its contract: the search of the input's parts, line one, and the vertices' lines with 0 and 21.
-use mathlib.Core.Path.{◌≡◌, ap}
+use mathlib.Core.Path.{◌≡◌, sym, ap, ◌∙◌}
 use mathlib.Core.List.{List}
 use Prim.Native.Nat.{ℕ, ◌+◌, ◌-◌, ◌≤◌}
 use native.Mathlib.Omega.{arith}
 use lib.ListN.{length, take, drop}
 use borrow.Author.Rules.{part_to_end}
-use Rattle.std.proofs.Common.{◌≡◌, true}
 use Rattle.graph.specs.File.{word}
 use Rattle.graph.proofs.WordRuns.{count_as}
 use Rattle.model.specs.Call.{Outcome, outcome_of_search}
 use Rattle.report.specs.Input.{program_vertices, events_in, file_in, program_lists}
 use Rattle.report.specs.Respond.{searched}
 use Rattle.report.proofs.InputFacts.{SizesPassed, own_passed, file_as}
-use Rattle.report.proofs.RespondFacts.{plays_success, plays_unfinished, plays_neither, events_part, searched_as, search_and_print_line, search_and_print_lines}
-use Rattle.report.proofs.program.search_and_print.Goals.{After-search-answer, After-word-start, Start}
-use Rattle.report.proofs.program.search_and_print.Goals.{then-finished-via-then-finished, then-finished-via-else-finished+then-answer-eq-UNFINISHED}
-use Rattle.model.specs.Call.{plays}
+use Rattle.report.proofs.RespondFacts.{answer_plays, events_part, searched_as, search_and_print_line, search_and_print_lines}
+use Rattle.report.proofs.program.search_and_print.Goals.{After-search-found, After-word-start, Start}
 use Rattle.report.proofs.program.search_and_print.Goals as goal
 
 -- the input passes the program's own order
@@ -50,27 +47,27 @@ pub slice_bounds-search-end : goal.slice_bounds-search-end
 slice_bounds-search-end c = file_start (goal.at.slice_bounds-search-end c).After-word-start
 
 -- the input
-abbrev input_of : After-search-answer → List ℕ
+abbrev input_of : After-search-found → List ℕ
 input_of c = c.args.input.now
 
 -- where its file starts
-abbrev start_of : After-search-answer → ℕ
+abbrev start_of : After-search-found → ℕ
 start_of c = 6 + c.word-start.result
 
 -- the file
-abbrev file_of : After-search-answer → List ℕ
+abbrev file_of : After-search-found → List ℕ
 file_of c = take (length (input_of c) - start_of c) (drop (start_of c) (input_of c))
 
 -- it is the input's
-same_file : (c : After-search-answer) → file_of c ≡ file_in (input_of c)
+same_file : (c : After-search-found) → file_of c ≡ file_in (input_of c)
 same_file c = file_as (input_of c) c.word-start.ensures.value (part_to_end (input_of c) (start_of c))
 
 -- its n is within the program's own size
-few-vertices : (c : After-search-answer) {n : ℕ} → n ≡ word (file_of c) 0 → n ≤ program_vertices
-few-vertices c e = omega (arith, count_as (same_file c) e, (passes (goal.at.After-search-answer c).Start).sizes.few-vertices)
+few-vertices : (c : After-search-found) {n : ℕ} → n ≡ word (file_of c) 0 → n ≤ program_vertices
+few-vertices c e = omega (arith, count_as (same_file c) e, (passes (goal.at.After-search-found c).Start).sizes.few-vertices)
 
 -- the search is the program's
-told : (c : After-search-answer) {o : Outcome} → o ≡ outcome_of_search (file_of c) c.word.result c.word-2.result (take (start_of c - 6) (drop 6 (input_of c))) program_lists
+told : (c : After-search-found) {o : Outcome} → o ≡ outcome_of_search (file_of c) c.word.result c.word-2.result (take (start_of c - 6) (drop 6 (input_of c))) program_lists
     → o ≡ searched (input_of c)
 told c =
     searched_as (input_of c) c.word-start.ensures.value c.word.ensures.value c.word-2.ensures.value
@@ -79,33 +76,31 @@ told c =
 pub put_first_line-next-requires : goal.put_first_line-next-requires
 put_first_line-next-requires c = omega (arith, c.requires.output_places_in_bounds)
 
-pub word-requires-then-finished : goal.word-requires-then-finished
-word-requires-then-finished c = omega (arith, (passes (goal.at.word-requires-then-finished c).Start).four, ap length (same_file (goal.at.word-requires-then-finished c).After-search-answer))
+pub word-requires-then-played : goal.word-requires-then-played
+word-requires-then-played c = omega (arith, (passes (goal.at.word-requires-then-played c).Start).four, ap length (same_file (goal.at.word-requires-then-played c).After-search-found))
 
 pub put_vertex_lines-requires : goal.put_vertex_lines-requires
 put_vertex_lines-requires c =
-    let few : c.word-then-finished.result ≤ program_vertices = few-vertices (goal.at.put_vertex_lines-requires c).After-search-answer c.word-then-finished.ensures.value in
+    let few : c.word-then-played.result ≤ program_vertices = few-vertices (goal.at.put_vertex_lines-requires c).After-search-found c.word-then-played.ensures.value in
     let short : c.put_first_line-next.result ≤ 84 = c.put_first_line-next.ensures.upper_bound in
     record {
       n_in_bounds = omega (arith, few, short, c.requires.output_places_in_bounds);
       n_le_program_vertices = few;
-      n_in_bounds_2 = omega (arith, few, c.search-answer.auto.distances);
-      n_in_bounds_3 = omega (arith, few, c.search-answer.auto.parents);
+      n_in_bounds_2 = omega (arith, few, c.search-found.auto.distances);
+      n_in_bounds_3 = omega (arith, few, c.search-found.auto.parents);
     }
 
-pub returns-then-finished : goal.returns-then-finished
+pub returns-then-played : goal.returns-then-played
 unfolding program_lists
-returns-then-finished c =
-    let played : plays c.search-answer.result.number ≡ true =
-    elim c.then-finished.branch [
-      | then-finished-via-then-finished w ↦ plays_success w.if-finished.true
-      | then-finished-via-else-finished+then-answer-eq-UNFINISHED w ↦ plays_unfinished w.if-finished.false w.if-answer-eq-UNFINISHED.true
-    ] in
-    search_and_print_lines (input_of (goal.at.returns-then-finished c).After-search-answer) c.args.output.now (told (goal.at.returns-then-finished c).After-search-answer c.search-answer.ensures.values_after)
-    played (count_as (same_file (goal.at.returns-then-finished c).After-search-answer) c.word-then-finished.ensures.value) c.put_first_line-next.ensures.prints c.put_vertex_lines.ensures
+returns-then-played c =
+    let s = (goal.at.returns-then-played c).After-search-found in
+    search_and_print_lines (input_of s) c.args.output.now (told s c.search-found.ensures.values_after)
+    (answer_plays c.search-found.result ∙ sym c.is_ok-played.ensures.value ∙ c.if-played.true)
+    (count_as (same_file s) c.word-then-played.ensures.value) c.put_first_line-next.ensures.prints c.put_vertex_lines.ensures
 
 pub returns : goal.returns
 unfolding program_lists
 returns c =
-    search_and_print_line (input_of (goal.at.returns c).After-search-answer) c.args.output.now (told (goal.at.returns c).After-search-answer c.search-answer.ensures.values_after)
-    (plays_neither c.if-finished.false c.if-answer-eq-UNFINISHED.false) c.put_first_line-next.ensures.prints
+    let s = (goal.at.returns c).After-search-found in
+    search_and_print_line (input_of s) c.args.output.now (told s c.search-found.ensures.values_after)
+    (answer_plays c.search-found.result ∙ sym c.is_ok-played.ensures.value ∙ c.if-played.false) c.put_first_line-next.ensures.prints

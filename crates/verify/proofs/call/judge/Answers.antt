@@ -1,27 +1,30 @@
 -- `verify::call::judge` meets its contract: each return is one of the ways through the tests.
+use mathlib.Core.Path.{refl}
+use Rattle.numbers.proofs.Numbering.{number_some, left_by}
 use Rattle.verify.proofs.JudgeFacts.{judged_file, judged_source, judged_short, judged_whole}
 use Rattle.verify.specs.Steps.{lengths_in}
 use Rattle.verify.proofs.call.judge.Goals as goal
 
-pub returns-then-answer-ne-SUCCESS : goal.returns-then-answer-ne-SUCCESS
-returns-then-answer-ne-SUCCESS c =
+pub returns-in_err-survey-clause-value : goal.returns-in_err-survey-clause-value
+returns-in_err-survey-clause-value c =
     let a = c.args in
-    judged_file a.file.now a.source (lengths_in a.lengths) c.examine-answer.ensures c.if-answer-ne-SUCCESS.true
+    let refused = c.in_err-survey.field-0.0 in
+    rw (left_by refused c.from_residual.result c.from_residual.ensures.1)
+    (judged_file a.file.now a.source (lengths_in a.lengths) c.in_err-survey.ensures.value (number_some refused))
 
-pub returns-then-answer-source : goal.returns-then-answer-source
-returns-then-answer-source c =
+pub returns-then-survey-source-clause-value : goal.returns-then-survey-source-clause-value
+returns-then-survey-source-clause-value c =
     let a = c.args in
-    judged_source a.file.now a.source (lengths_in a.lengths) c.examine-answer.ensures c.if-answer-ne-SUCCESS.false c.if-answer-source.true
-    c.refused.ensures
+    judged_source a.file.now a.source (lengths_in a.lengths) c.in_ok-survey.ensures.value refl c.if-survey-source.true
 
-pub returns-then-lengths_short : goal.returns-then-lengths_short
-returns-then-lengths_short c =
+pub returns-then-lengths_short-clause-value : goal.returns-then-lengths_short-clause-value
+returns-then-lengths_short-clause-value c =
     let a = c.args in
-    judged_short a.file.now a.source (lengths_in a.lengths) c.examine-answer.ensures c.if-answer-ne-SUCCESS.false c.if-answer-source.false
-    c.lengths_short.ensures c.if-lengths_short.true c.refused-then-lengths_short.ensures
+    judged_short a.file.now a.source (lengths_in a.lengths) c.in_ok-survey.ensures.value refl c.if-survey-source.false
+    c.lengths_short.ensures c.if-lengths_short.true
 
-pub returns : goal.returns
-returns c =
+pub returns-clause-value : goal.returns-clause-value
+returns-clause-value c =
     let a = c.args in
-    judged_whole a.file.now a.source (lengths_in a.lengths) c.examine-answer.ensures c.if-answer-ne-SUCCESS.false c.if-answer-source.false
+    judged_whole a.file.now a.source (lengths_in a.lengths) c.in_ok-survey.ensures.value refl c.if-survey-source.false
     c.lengths_short.ensures c.if-lengths_short.false

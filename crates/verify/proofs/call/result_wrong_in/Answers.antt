@@ -4,20 +4,20 @@ use Rattle.lists.proofs.Overlay.{part_length}
 use Rattle.model.specs.Words.{labels_in}
 use Rattle.verify.proofs.call.result_wrong_in.Goals as goal
 
-pub slice_bounds-result_wrong-end : goal.slice_bounds-result_wrong-end
-slice_bounds-result_wrong-end c = part_length (c.args.n + 1) c.args.offsets.now c.requires.offsets_there
+pub slice_bounds-claim-end : goal.slice_bounds-claim-end
+slice_bounds-claim-end c = part_length (c.args.n + 1) c.args.offsets.now c.requires.offsets_there
 
-pub slice_bounds-result_wrong-end-2 : goal.slice_bounds-result_wrong-end-2
-slice_bounds-result_wrong-end-2 c = part_length c.args.m c.args.targets.now c.requires.targets_there
+pub slice_bounds-claim-end-2 : goal.slice_bounds-claim-end-2
+slice_bounds-claim-end-2 c = part_length c.args.m c.args.targets.now c.requires.targets_there
 
-pub slice_bounds-result_wrong-end-3 : goal.slice_bounds-result_wrong-end-3
-slice_bounds-result_wrong-end-3 c = part_length c.args.n c.args.distances.now c.requires.distances_there
+pub slice_bounds-claim-end-3 : goal.slice_bounds-claim-end-3
+slice_bounds-claim-end-3 c = part_length c.args.n c.args.distances.now c.requires.distances_there
 
-pub slice_bounds-result_wrong-end-4 : goal.slice_bounds-result_wrong-end-4
-slice_bounds-result_wrong-end-4 c = part_length c.args.n c.args.parents.now c.requires.parents_there
+pub slice_bounds-claim-end-4 : goal.slice_bounds-claim-end-4
+slice_bounds-claim-end-4 c = part_length c.args.n c.args.parents.now c.requires.parents_there
 
-pub result_wrong-requires : goal.result_wrong-requires
-result_wrong-requires c = c.requires.first_places
+pub invariant_of-claim : goal.invariant_of-claim
+invariant_of-claim c = record { checkable = c.requires.first_places }
 
 pub returns : goal.returns
 unfolding labels_in

@@ -9,5 +9,5 @@ pub returns-in-Free : goal.returns-in-Free
 unfolding held_of
 returns-in-Free c = omega (arith, ap held_of c.in-Free.is)
 
-pub returns : goal.returns
-returns c = omega (arith, held_one c.args.next c.in_default.not-Free)
+pub returns-in_default : goal.returns-in_default
+returns-in_default c = omega (arith, held_one c.args.next c.in_default.not-Free)

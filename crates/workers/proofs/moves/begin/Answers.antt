@@ -17,12 +17,12 @@ below c =
 pub at-requires : goal.at-requires
 at-requires c = omega (arith, below (goal.at.at-requires c).After-take-taken)
 
-pub element-requires : goal.element-requires
-element-requires c = omega (arith, below (goal.at.element-requires c).After-take-taken, c.wide16-2.ensures.value)
+pub bounds-offsets-from : goal.bounds-offsets-from
+bounds-offsets-from c = omega (arith, below (goal.at.bounds-offsets-from c).After-take-taken, c.from-2.ensures)
 
 pub returns : goal.returns
 returns c =
     let offsets = c.args.offsets.now in
-    let first = c.wide16.ensures.value ∙ c.at.ensures in
-    let end = c.element.ensures.value ∙ ap (λ (i : ℕ). get_or offsets (i + 1) 0) c.wide16-2.ensures.value in
+    let first = c.from.ensures ∙ c.at.ensures in
+    let end = c.from-3.ensures ∙ ap (λ (i : ℕ). get_or offsets (i + 1) 0) c.from-2.ensures in
     begun_from c.take-taken.ensures first (c.hold.ensures offsets end)

@@ -1,9 +1,0 @@
--- `pagekit::is_laid_out` is safe and ends. The loop counts up to `count`; the measure is what is left of it.
-use Rattle.std.proofs.Common.{◌-◌, ◌≤◌}
-use Rattle.pagekit.proofs.is_laid_out.Given as goal
-
-abbrev pub invariant-loop-i : goal.invariant-loop-i
-invariant-loop-i l = l.i ≤ l.count
-
-abbrev pub decreases-loop-i : goal.decreases-loop-i
-decreases-loop-i l = l.count - l.i

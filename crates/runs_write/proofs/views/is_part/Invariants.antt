@@ -1,9 +1,0 @@
--- `runs_write::views::is_part` is safe and ends. Nothing has to hold from turn to turn; the measure is what is left of the part.
-use Rattle.std.proofs.Common.{◌-◌, length}
-use Rattle.runs_write.proofs.views.is_part.Given as goal
-
-abbrev pub invariant-loop-i : goal.invariant-loop-i
-invariant-loop-i l = Unit {0}
-
-abbrev pub decreases-loop-i : goal.decreases-loop-i
-decreases-loop-i l = length l.part - l.i

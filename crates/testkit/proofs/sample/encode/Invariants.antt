@@ -1,9 +1,0 @@
--- `testkit::sample::encode` is safe and ends. The loop counts the edges; the measure is how many are left.
-use Rattle.std.proofs.Common.{◌≡◌, ◌-◌, ◌≤◌, length}
-use Rattle.testkit.proofs.sample.encode.Given as goal
-
-abbrev pub invariant-loop-edge : goal.invariant-loop-edge
-invariant-loop-edge l = (l.edge ≤ l.edges) × (length l.file ≡ length l.initial.file)
-
-abbrev pub decreases-loop-edge : goal.decreases-loop-edge
-decreases-loop-edge l = l.edges - l.edge
