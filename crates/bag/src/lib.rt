@@ -1,8 +1,9 @@
 // Bags of pennants (000, section 4) on three node lists that the caller lends: left and right child,
-// and the number that a node holds. Nodes are numbered from 1; 0 is none. The free nodes are chained
-// through left, from place 0 on, which is no node's. No operation walks a tree: each touches at most
-// the 16 slots of the bags it is given and, for a filled slot, one or two nodes. The three lists stay
-// parameters of their own: a struct lent mutably would have to say again that right and values stay.
+// and the number that a node holds. Nodes are numbered from 1; 0 is none, in C's lists too, so it is no
+// `Option`. The free nodes are chained through left, from place 0 on, which is no node's. No operation
+// walks a tree: each touches at most the 16 slots of the bags it is given and, for a filled slot, one
+// or two nodes. The three lists stay parameters of their own: a struct lent mutably would have to say
+// again that right and values stay.
 #![tactic(auto)]
 
 ghost use Rattle.std.specs.Prelude.{◌≡◌, ℕ, List, [], ◌∷◌};

@@ -3,12 +3,12 @@
 use crate::counts::{add_numbers, are_ones};
 use crate::walk::nodes_of;
 use bag::Bag;
+use testkit::contents::first as first_places;
 use testkit::words::total;
 
-// Counts the numbers of a bag in the row at `base`, and says how many there are.
+// Counts the numbers of a bag in the row `found`, and says how many there are.
 pub fn add_bag(
     bag: Bag,
-    base: usize,
     left: &[u16],
     right: &[u16],
     values: &[u16],
@@ -16,7 +16,7 @@ pub fn add_bag(
     found: &mut [u16],
 ) -> usize {
     let count = nodes_of(bag, left, right, nodes);
-    add_numbers(found, base, nodes, count, values);
+    add_numbers(found, first_places(nodes, count), values);
     count
 }
 
@@ -33,8 +33,8 @@ pub fn are_parts(
     nodes: &mut [u16],
     found: &mut [u16],
 ) -> bool {
-    let a = add_bag(bags[0], 0, left, right, values, nodes, found);
-    let b = add_bag(bags[1], 0, left, right, values, nodes, found);
-    let all = total(found, 0, found.len());
-    (a == first) & (b == second) & are_ones(found, 0, count) & (all == count)
+    let a = add_bag(bags[0], left, right, values, nodes, found);
+    let b = add_bag(bags[1], left, right, values, nodes, found);
+    let all = total(found);
+    (a == first) & (b == second) & are_ones(first_places(found, count)) & (all == count)
 }

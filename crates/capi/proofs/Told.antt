@@ -5,15 +5,15 @@ use Prim.Native.Nat.{ℕ}
 use Rattle.std.specs.Prelude.{Result, Ok, Err}
 use Rattle.numbers.specs.Told.{told}
 use Rattle.numbers.specs.declared.refused.Refused.{Refused}
-use Rattle.graph.specs.Answers.{answer_of}
+use Rattle.graph.specs.Answers.{read_answer_of}
 use Rattle.graph.specs.Read.{ReadOutcome, ReadAnswer, read_exit}
-use Rattle.graph.specs.declared.survey.Survey.{Survey}
+use Rattle.graph.specs.declared.survey.Size.{Size}
 use Rattle.model.specs.Call.{Lent, Answer, outcome_of_search}
 use Rattle.search.specs.Promise.{search_exit, Kept}
 
 -- the number of a read's answer
-pub read_number_told : (r : Result Survey Refused) → told r ≡ (answer_of r).number
-read_number_told (Ok survey) = refl
+pub read_number_told : (r : Result Size Refused) → told r ≡ (read_answer_of r).number
+read_number_told (Ok size) = refl
 read_number_told (Err refused) = refl
 
 -- of a read

@@ -1,11 +1,11 @@
 // The C interface: reader, writer, search, checker and pages as functions that C can call, over
-// numbers and lists alone: the answers of reader and search, which are records, go into a lent list.
+// numbers and lists alone: the answers of reader and search go into a lent list, a refusal's number too.
 // Each has the contract of the call that it wraps, and no `requires`.
 #![tactic(auto)]
 
 ghost use Rattle.std.specs.Prelude.{◌≡◌, ◌<◌};
 ghost use Rattle.numbers.specs.Told.{told};
-ghost use Rattle.graph.specs.Answers.{answer_of as graph·answer_of};
+ghost use Rattle.graph.specs.Answers.{read_answer_of};
 ghost use Rattle.graph.specs.Read.{outcome_of_read, read_exit};
 ghost use Rattle.graph.specs.Write.{outcome_of_write, write_exit};
 ghost use Rattle.model.specs.Call.{outcome_of_search};
@@ -18,11 +18,11 @@ ghost use Rattle.page.specs.Page.{outcome_of_page};
 ghost use Rattle.page.specs.Promise.{page_exit, OnPaper};
 ghost use Rattle.capi.specs.Answers.{read_answer_in, answer_in, ReadSmall, SearchSmall};
 
-use graph::Survey;
+use graph::Size;
 use numbers::{Refused, told};
 use search::Answer;
 
-// A number that 32 bits hold, in 32 bits.
+// A number that 32 bits hold, in 32 bits. `try_from` and `unwrap` ask for the same bound.
 fn narrow(x: usize) -> u32
     requires { x < 4294967296 }
     ensures { result ≡ x }
@@ -32,12 +32,12 @@ fn narrow(x: usize) -> u32
 
 // The reader's answer, into the caller's list. Every answer of the reader's is small: `read_small`
 // in proofs/Small.antt.
-fn tell_read(read: &Result<Survey<'_>, Refused>, answer: &mut [u32; 3])
-    requires { ReadSmall (graph·answer_of read.now) }
-    ensures { read_answer_in answer.new ≡ graph·answer_of read.now }
+fn tell_read(read: &Result<Size, Refused>, answer: &mut [u32; 3])
+    requires { ReadSmall (read_answer_of read.now) }
+    ensures { read_answer_in answer.new ≡ read_answer_of read.now }
 {
     *answer = match read {
-        Ok(survey) => [0, narrow(survey.vertices), narrow(survey.edges)],
+        Ok(size) => [0, narrow(size.vertices), narrow(size.edges)],
         Err(refused) => [narrow(refused.number()), 0, 0],
     };
 }

@@ -6,7 +6,7 @@ ghost use Rattle.engine.specs.Runs.{answer_of, number_of, answer_in, Runnable, R
 
 use crate::{Answer, Ending};
 use opening::open;
-use schedule::Event;
+use schedule::{Event, EventTable};
 use workers::{
     Phase, advance, all_free, begin, can_split, can_unite, first_of_eight, gather, stow, used_up,
 };
@@ -25,7 +25,8 @@ fn conclude(ending: Ending, used: usize, effective: usize, layer: u16) -> Answer
 
 // Plays the schedule. `pending` counts what is left to do in the layer: the numbers in the input bags
 // and the workers that hold a vertex. `found` counts the numbers in the output bags. So a close
-// knows by the two counts whether its condition is met and whether the united bag is empty.
+// knows by the two counts whether its condition is met and whether the united bag is empty. The lists are
+// parameters, as the search's are and for its reason.
 pub fn run(
     source: u16,
     workers: usize,
@@ -54,10 +55,10 @@ pub fn run(
     let mut found = 0;
     let mut effective = 0;
     let mut layer: u16 = 0;
-    let table = schedule::byte_table();
+    let table = EventTable::new();
     // `used` counts the events before this one.
     for (used, byte) in schedule.iter().enumerate() {
-        let event = schedule::look_up(&table, *byte);
+        let event = table.look_up(*byte);
         match event {
             Event::Work { worker: w } => {
                 let phase = phases[w];

@@ -11,4 +11,4 @@ mod survey;
 pub mod words;
 
 pub use reader::read;
-pub use survey::Survey;
+pub use survey::{Size, Survey};

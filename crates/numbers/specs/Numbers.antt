@@ -1,4 +1,5 @@
--- Document 01's sizes and the numbers that its calls answer, by name. src/lib.rt has the same for the code.
+-- Document 01's sizes and the numbers that its calls answer, by name. src/lib.rt and src/refused.rt have the same for
+-- the code.
 use Rattle.std.specs.Prelude.{ℕ}
 
 -- "devices n 1 to 4,096" (§1.3)

@@ -18,7 +18,7 @@ pub const MAX_EVENTS: usize = 5000000;
 // An unset distance or parent, in 16-bit lists.
 pub const UNSET: u16 = 65535;
 
-// The same as a `usize`, for words that were made wide.
+// The same as a `usize`, for words that were made wide. No `From` is called in a constant.
 pub const WIDE_UNSET: usize = UNSET as usize;
 
 // The answer's number where a call turns nothing down.

@@ -11,7 +11,8 @@ use numbers::Refused;
 use verify::check;
 
 // The pages of a result that passes the checker go to the front of the page list. File, source,
-// distances, parents, offsets, targets and marks are the checker's.
+// distances, parents, offsets, targets and marks are the checker's. Its answer is tested and not handed on
+// by `?`, so that the edit `page_wrong_printed` changes a test.
 pub fn page(
     file: &[u8],
     source: usize,

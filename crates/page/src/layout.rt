@@ -29,7 +29,8 @@ fn put_head_line(output: &mut [u8], at: usize, number: usize) -> usize
     put_field(output, next, number, 10, LINE_FEED)
 }
 
-// A vertex's line: the vertex in columns 1 to 5, its distance in 7 to 13, its parent in 15 to 20.
+// A vertex's line: the vertex in columns 1 to 5, its distance in 7 to 13, its parent in 15 to 20. One
+// function of this and `report`'s would need the contract of a line that no definition is about.
 #[tactic(auto, using(crate::proofs::LineFacts::few_digits, text::proofs::TextFacts::label_short))]
 fn put_vertex_line(output: &mut [u8], at: usize, vertex: usize, distance: u16, parent: u16) -> usize
     requires vertex_lt_max_vertices { vertex < max_vertices }
@@ -57,7 +58,8 @@ fn put_entry(output: &mut [u8], at: usize, vertex: usize, distance: u16, parent:
     put_vertex_line(output, next, vertex, distance, parent)
 }
 
-// The pages of n vertices, from the list's front on.
+// The pages of n vertices, from the list's front on. `report`'s loop is alike: a function of both would
+// take the step, its lines and its bound, to save four lines.
 pub fn put_pages(output: &mut [u8], n: usize, distances: &[u16], parents: &[u16]) -> usize
     requires n_le_max_vertices { n ≤ max_vertices }
     requires n_in_bounds { n ≤ length distances.now }

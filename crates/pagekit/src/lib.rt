@@ -117,17 +117,17 @@ fn byte_at(place: usize, distances: &[u16], parents: &[u16]) -> u8 {
     )
 }
 
-// Whether the first bytes of the list are the pages' first ones.
-fn is_laid_out(list: &[u8], count: usize, distances: &[u16], parents: &[u16]) -> bool {
-    list.get(..count).is_some_and(|first| {
-        let mut bytes = first.iter().enumerate();
-        bytes.all(|(i, byte)| *byte == byte_at(i, distances, parents))
-    })
+// Whether the bytes are the pages' first ones.
+fn is_laid_out(bytes: &[u8], distances: &[u16], parents: &[u16]) -> bool {
+    let mut places = bytes.iter().enumerate();
+    places.all(|(i, byte)| *byte == byte_at(i, distances, parents))
 }
 
 // Whether the pages of so many vertices stand at the front of a list that held `BLANK`, and the rest of
 // it is as it was.
 pub fn is_printed(list: &[u8], vertices: u16, distances: &[u16], parents: &[u16]) -> bool {
     let count = need(vertices);
-    is_laid_out(list, count, distances, parents) & is_filled(list, count, BLANK)
+    let pages = list.get(..count);
+    let printed = pages.is_some_and(|bytes| is_laid_out(bytes, distances, parents));
+    printed & is_filled(list, count, BLANK)
 }

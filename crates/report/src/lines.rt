@@ -47,7 +47,8 @@ fn put_numbers(
     put_field(output, third, layer, UNALIGNED, LINE_FEED)
 }
 
-// A vertex's line: vertex, distance, parent.
+// A vertex's line: vertex, distance, parent. `page` has columns in the place of `UNALIGNED`: a function of
+// the widths would need the contract of a line that no definition is about.
 #[tactic(auto, using(crate::proofs::LineFacts::vertex_short, text::proofs::TextFacts::label_short))]
 fn put_vertex_line(output: &mut [u8], at: usize, vertex: usize, distance: u16, parent: u16) -> usize
     requires at_in_bounds { at + 16 ≤ length output.old }

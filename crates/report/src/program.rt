@@ -76,7 +76,7 @@ pub fn respond(input: &[u8], output: &mut [u8]) -> usize
 // The program in its buffers: the first `read` bytes of the input buffer are the input, or all of it
 // where `read` is larger. By its type that buffer has one place more than the longest input that can
 // be accepted; a longer input is answered as the bytes that fill the buffer are (`long_input`,
-// proofs/OutputFacts.antt).
+// proofs/OutputFacts.antt). `page_report` has these two lines with its own sizes and `respond`.
 pub fn respond_in(
     input: &[u8; INPUT_PLACES],
     read: usize,

@@ -10,7 +10,7 @@ use bagkit::family;
 use bagkit::walk::{filled, free_nodes};
 use std::io;
 use testkit::group::Tally;
-use testkit::words::at;
+use testkit::words::{at, first};
 
 const MOST: u16 = 32768;
 
@@ -47,8 +47,8 @@ fn is_free(left: &[u16]) -> bool {
     let mut nodes = [0u16; 32769];
     let mut met = [0u16; 32769];
     let count = free_nodes(left, &mut nodes);
-    add_nodes(&mut met, &nodes, count);
-    (count == usize::from(MOST)) & are_ones(&met, 1, usize::from(MOST))
+    add_nodes(&mut met, first(&nodes, count));
+    (count == usize::from(MOST)) & are_ones(&met[1..])
 }
 
 // A new pool with all numbers in bag 0.
@@ -68,7 +68,7 @@ fn one_bag(left: &mut [u16], right: &mut [u16], values: &mut [u16]) -> Tally
     let full = full_bag(left, right, values);
     let held = (at(left, 0) == 0) & holds_all(full, 32768, 0, left, right, values);
     let rest = family::drain(full, 0, MOST, left, right, values, &mut found);
-    let out = bag::is_empty(rest[0]) & are_ones(&found, 0, usize::from(MOST));
+    let out = bag::is_empty(rest[0]) & are_ones(first(&found, usize::from(MOST)));
     Tally::new().with(held).with(out).with(is_free(left))
 }
 

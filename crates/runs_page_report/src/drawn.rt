@@ -4,6 +4,7 @@ use crate::replies::{Wanted, answers, answers_in};
 use checkkit::graphs::draw;
 use checkkit::plans::{Plan, medium};
 use checkkit::results::{KINDS, Kind, UNSET, make_judged};
+use testkit::files::first;
 use testkit::sample::file_length;
 
 // So many graphs, each with a result of the next kind.
@@ -30,9 +31,9 @@ fn is_answered(task: Task, number: u16, distances: &[u16], parents: &[u16], file
     let parts = Parts {
         source: plan.source,
         count: task.count,
-        file: file_length(plan.vertices, plan.edges),
     };
-    let length = compose(&mut input, parts, distances, parents, file);
+    let whole = first(file, file_length(plan.vertices, plan.edges));
+    let length = compose(&mut input, parts, distances, parents, whole);
     let given = length.wrapping_add(task.more);
     let wanted = Wanted {
         number,
@@ -43,7 +44,7 @@ fn is_answered(task: Task, number: u16, distances: &[u16], parents: &[u16], file
     if task.in_buffers {
         return answers_in(&input, given, wanted);
     }
-    answers(&input, given, wanted)
+    answers(first(&input, given), wanted)
 }
 
 // Makes the result of a task for its graph, judges it, and asks.

@@ -4,6 +4,7 @@ use crate::inputs::{Parts, compose};
 use crate::replies::{Wanted, answers};
 use checkkit::tables;
 use searchkit::faults;
+use testkit::files::first;
 
 pub const COMBINATIONS: u16 = 4096;
 
@@ -41,23 +42,14 @@ fn expected(combination: u16) -> u16 {
 
 // How many distances the input has.
 fn count(combination: u16) -> u16 {
-    if faults::has(combination / OTHER_SETS, LARGE_COUNT) {
-        return 4097;
-    }
-    if faults::has(others(combination), SHORT) {
-        3
-    } else {
-        4
-    }
+    let fitting = faults::either(others(combination), SHORT, 3, 4);
+    faults::either(combination / OTHER_SETS, LARGE_COUNT, 4097, fitting)
 }
 
 // The result: one of the wrong ones, or case A's own.
 fn labels(combination: u16) -> u16 {
-    if faults::has(others(combination), WRONG) {
-        combination % tables::GOOD
-    } else {
-        tables::GOOD
-    }
+    let wrong = combination % tables::GOOD;
+    faults::either(others(combination), WRONG, wrong, tables::GOOD)
 }
 
 // How much of the input is given.
@@ -66,16 +58,6 @@ fn given(combination: u16, length: usize) -> usize {
         3
     } else {
         length
-    }
-}
-
-// The words of the input and the length of its file.
-fn parts_of(combination: u16) -> Parts {
-    let request = faults::request_of(others(combination));
-    Parts {
-        source: request.source,
-        count: count(combination),
-        file: request.file,
     }
 }
 
@@ -88,18 +70,18 @@ pub fn is_right(combination: u16) -> bool {
     faults::make_file(&mut file, other);
     faults::make_chains(&mut file, other);
     tables::put_labels(labels(combination), &mut distances, &mut parents);
-    let length = compose(
-        &mut input,
-        parts_of(combination),
-        &distances,
-        &parents,
-        &file,
-    );
+    let request = faults::request_of(other);
+    let parts = Parts {
+        source: request.source,
+        count: count(combination),
+    };
+    let lent = first(&file, request.file);
+    let length = compose(&mut input, parts, &distances, &parents, lent);
     let wanted = Wanted {
         number: expected(combination),
         vertices: 4,
         distances: &distances,
         parents: &parents,
     };
-    answers(&input, given(combination, length), wanted)
+    answers(first(&input, given(combination, length)), wanted)
 }

@@ -3,12 +3,11 @@ use searchkit::base::FILE;
 use testkit::files::{copy, put_word, put_word_at, put_words};
 use testkit::words::at;
 
-// The words of an input, and the length of its file in bytes.
+// The words of an input. The count is a number that it says: the lists of labels may be shorter.
 #[derive(Clone, Copy)]
 pub struct Parts {
     pub source: u16,
     pub count: u16,
-    pub file: usize,
 }
 
 // Where the file starts.
@@ -42,18 +41,14 @@ pub fn compose(
     put_word(input, 1, parts.count);
     put_labels(input, 2, distances, parts.count);
     put_labels(input, 2 + usize::from(parts.count), parents, parts.count);
-    copy(file, parts.file, input, start);
-    start.wrapping_add(parts.file)
+    copy(file, input, start);
+    start.wrapping_add(file.len())
 }
 
 // Case A's input, with these labels. It has 48 bytes.
 pub fn put_square(input: &mut [u8], source: u16, distances: &[u16], parents: &[u16]) {
     let mut file = [0u8; 28];
     put_words(&mut file, &FILE);
-    let parts = Parts {
-        source,
-        count: 4,
-        file: 28,
-    };
+    let parts = Parts { source, count: 4 };
     compose(input, parts, distances, parents, &file);
 }

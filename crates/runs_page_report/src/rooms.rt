@@ -1,10 +1,10 @@
 // Output lists of every length: one that is too short for some output is left as it is, with the answer
 // 0; what lies behind the text of a longer one is kept.
 use crate::inputs::put_square;
-use crate::replies::{Wanted, is_reply, respond};
+use crate::replies::{Wanted, is_reply};
 use checkkit::tables;
 use pagekit::BLANK;
-use testkit::files::is_filled;
+use testkit::files::{first, is_filled, lent};
 use testkit::group::Tally;
 
 // The lengths.
@@ -18,7 +18,8 @@ fn is_answered(places: usize, length: usize, wanted: Wanted) -> bool {
     let mut input = [0u8; 48];
     let mut output = [BLANK; 87743];
     put_square(&mut input, 0, wanted.distances, wanted.parents);
-    let count = respond(&input, length, &mut output, places);
+    let cut = first(&input, length);
+    let count = page_report::respond(cut, lent(&mut output, places));
     if places < OUTPUT_NEED {
         return (count == 0) & is_filled(&output, 0, BLANK);
     }

@@ -1,7 +1,6 @@
 // Outputs written whole: case A of document 01, from its source and from another vertex, with a wrong
 // parent, and an empty input.
 use crate::inputs::put_square;
-use crate::replies::respond;
 use pagekit::BLANK;
 use std::io;
 use testkit::files::first;
@@ -9,7 +8,7 @@ use testkit::files::first;
 // Writes a name and the output.
 fn show(rt: &impl Print, name: &str, input: &[u8]) -> io::Result<()> {
     let mut output = [BLANK; 87738];
-    let count = respond(input, input.len(), &mut output, 87738);
+    let count = page_report::respond(input, &mut output);
     println!(rt; "{name}")?;
     rt.write_all(first(&output, count))
 }

@@ -4,7 +4,7 @@ use crate::inputs::{Parts, compose, put_file_word};
 use crate::replies::{Wanted, answers};
 use checkkit::tables;
 use checkkit::tables::Table;
-use testkit::files::put_word;
+use testkit::files::{first, put_word};
 
 // The cases of the refusals, and of the sources: all results with each of the seven that are words.
 pub const REFUSALS: u16 = tables::REFUSAL_CASES;
@@ -72,7 +72,7 @@ pub fn own_is_right(row: &[u16; 5]) -> bool {
         distances: &[0],
         parents: &[0],
     };
-    answers(&input, usize::from(length), wanted)
+    answers(first(&input, usize::from(length)), wanted)
 }
 
 // A case of one of `checkkit`'s tables: the count is the distances' length there.
@@ -88,16 +88,16 @@ fn is_right(table: Table, case: u16) -> bool {
     let parts = Parts {
         source: (query.source % 65536) as u16,
         count: (lengths.distances % 65536) as u16,
-        file: query.file,
     };
-    let length = compose(&mut input, parts, &distances, &parents, &file);
+    let lent = first(&file, query.file);
+    let length = compose(&mut input, parts, &distances, &parents, lent);
     let wanted = Wanted {
         number: (query.number % 65536) as u16,
         vertices: 4,
         distances: &distances,
         parents: &parents,
     };
-    answers(&input, length, wanted)
+    answers(first(&input, length), wanted)
 }
 
 // A case of the table of refusals.

@@ -7,13 +7,13 @@ ghost use Rattle.bagkit.specs.Family.{Room};
 
 use bag::Bag;
 use bagkit::contents::add_bag;
-use bagkit::counts::{add_nodes, are_ones, copy_row, is_sum, lower, pour, raise};
+use bagkit::counts::{add_nodes, are_ones, is_sum, lower, raise};
 use bagkit::family;
 use bagkit::walk::free_nodes;
 use std::io;
 use testkit::group::Tally;
 use testkit::random::{below, leap, next};
-use testkit::words::{agree, at, total};
+use testkit::words::{at, first as first_places, total};
 
 const POOL_NODES: usize = 300;
 
@@ -46,15 +46,8 @@ pub struct Choice {
     pub value: u16,
 }
 
-// Where the row of a bag starts.
-fn base(i: usize) -> usize {
-    i % 4 * ROW_PLACES
-}
-
-// How many numbers a bag has by the counts.
-fn held(counts: &[u16], i: usize) -> usize {
-    total(counts, base(i), ROW_PLACES)
-}
+// How often each number is in each bag.
+type Counts = [[u16; ROW_PLACES]; 4];
 
 // Whether the tests of a bag say what the counts say.
 fn is_tested(bag: Bag, count: usize) -> bool {
@@ -64,12 +57,12 @@ fn is_tested(bag: Bag, count: usize) -> bool {
 }
 
 // Whether the tests of all bags do, and a node is free just where the counts leave one.
-fn are_tested(bags: [Bag; 4], left: &[u16], counts: &[u16]) -> bool {
-    let tested = bags
+fn are_tested(bags: [Bag; 4], left: &[u16], counts: &Counts) -> bool {
+    let mut rows = bags.iter().zip(counts);
+    let tested = rows.all(|(bag, row)| is_tested(*bag, total(row)));
+    let all = counts
         .iter()
-        .enumerate()
-        .all(|(i, bag)| is_tested(*bag, held(counts, i)));
-    let all = total(counts, 0, 4 * ROW_PLACES);
+        .fold(0, |sum: usize, row| sum.wrapping_add(total(row)));
     tested & ((at(left, 0) == 0) == (all == POOL_NODES))
 }
 
@@ -80,21 +73,23 @@ fn are_counted(
     left: &[u16],
     right: &[u16],
     values: &[u16],
-    counts: &[u16],
+    counts: &Counts,
 ) -> bool {
     let mut nodes = [0u16; 320];
     let mut met = [0u16; 301];
-    let mut found = [0u16; 200];
     let mut all: usize = 0;
-    for (i, bag) in bags.iter().enumerate() {
-        let count = add_bag(*bag, base(i), left, right, values, &mut nodes, &mut found);
-        add_nodes(&mut met, &nodes, count);
+    let mut same = true;
+    for (bag, row) in bags.iter().zip(counts) {
+        let mut found = [0u16; ROW_PLACES];
+        let count = add_bag(*bag, left, right, values, &mut nodes, &mut found);
+        add_nodes(&mut met, first_places(&nodes, count));
         all = all.wrapping_add(count);
+        same &= found == *row;
     }
     let free = free_nodes(left, &mut nodes);
-    add_nodes(&mut met, &nodes, free);
+    add_nodes(&mut met, first_places(&nodes, free));
     let whole = all.wrapping_add(free) == POOL_NODES;
-    whole & are_ones(&met, 1, POOL_NODES) & agree(&found, counts, 200)
+    whole & are_ones(&met[1..]) & same
 }
 
 // Inserts the number into bag i, unless the pool is full.
@@ -105,7 +100,7 @@ fn insert(
     left: &mut [u16],
     right: &mut [u16],
     values: &mut [u16],
-    counts: &mut [u16],
+    counts: &mut Counts,
 ) -> Outcome
     requires pooled { Pooled left.old right.old bags }
     requires left_in_bounds { length left.old ≤ length values.old }
@@ -115,7 +110,7 @@ fn insert(
     if at(left, 0) == 0 {
         return Outcome { bags, right: true };
     }
-    raise(counts, base(i).wrapping_add(usize::from(value)));
+    raise(&mut counts[i], usize::from(value));
     let after = family::put(bags, i, value, left, right, values);
     Outcome {
         bags: after,
@@ -130,7 +125,7 @@ fn take(
     left: &mut [u16],
     right: &[u16],
     values: &[u16],
-    counts: &mut [u16],
+    counts: &mut Counts,
 ) -> Outcome
     requires pooled { Pooled left.old right.now bags }
     requires left_in_bounds { length left.old ≤ length values.now }
@@ -141,7 +136,7 @@ fn take(
     let after = drawn.bags;
     let is_held = match drawn.value {
         None => true,
-        Some(value) => lower(counts, base(i).wrapping_add(usize::from(value))),
+        Some(value) => lower(&mut counts[i], usize::from(value)),
     };
     Outcome {
         bags: after,
@@ -156,7 +151,7 @@ fn unite(
     j: usize,
     left: &mut [u16],
     right: &mut [u16],
-    counts: &mut [u16],
+    counts: &mut Counts,
 ) -> Outcome
     requires pooled { Pooled left.old right.old bags }
     requires i_bound { i < 4 }
@@ -164,7 +159,11 @@ fn unite(
     requires differ { i ≢ j }
     ensures { Pooled left.new right.new result.bags }
 {
-    pour(counts, base(j), base(i), ROW_PLACES);
+    let poured = counts[j];
+    for (count, more) in counts[i].iter_mut().zip(&poured) {
+        *count = count.wrapping_add(*more);
+    }
+    counts[j] = [0; ROW_PLACES];
     let after = family::unite(bags, i, j, left, right);
     Outcome {
         bags: after,
@@ -173,13 +172,13 @@ fn unite(
 }
 
 // A bag other than i that is empty by the counts.
-fn empty_bag(counts: &[u16], i: usize) -> Option<usize>
+fn empty_bag(counts: &Counts, i: usize) -> Option<usize>
     requires { i < 4 }
     ensures { IfSome result (λ j. (j < 4) × (i ≢ j)) }
 {
     for k in 1..4 {
         let j = (i + k) % 4;
-        if held(counts, j) == 0 {
+        if total(&counts[j]) == 0 {
             return Some(j);
         }
     }
@@ -196,17 +195,21 @@ fn is_split(
     left: &[u16],
     right: &[u16],
     values: &[u16],
-    counts: &mut [u16],
-) -> bool {
+    counts: &mut Counts,
+) -> bool
+    requires i_bound { i < 4 }
+    requires j_bound { j < 4 }
+{
     let mut nodes = [0u16; 320];
-    let mut found = [0u16; 200];
-    let a = add_bag(first, base(i), left, right, values, &mut nodes, &mut found);
-    let b = add_bag(second, base(j), left, right, values, &mut nodes, &mut found);
-    let whole = held(counts, i);
+    let mut half = [0u16; ROW_PLACES];
+    let mut other = [0u16; ROW_PLACES];
+    let a = add_bag(first, left, right, values, &mut nodes, &mut half);
+    let b = add_bag(second, left, right, values, &mut nodes, &mut other);
+    let whole = total(&counts[i]);
     let sizes = (a == whole - whole / 2) & (b == whole / 2);
-    let same = is_sum(counts, base(i), &found, base(i), base(j), ROW_PLACES);
-    copy_row(counts, &found, base(i), ROW_PLACES);
-    copy_row(counts, &found, base(j), ROW_PLACES);
+    let same = is_sum(&counts[i], &half, &other);
+    counts[i] = half;
+    counts[j] = other;
     sizes & same
 }
 
@@ -217,7 +220,7 @@ fn split(
     left: &mut [u16],
     right: &mut [u16],
     values: &[u16],
-    counts: &mut [u16],
+    counts: &mut Counts,
 ) -> Outcome
     requires pooled { Pooled left.old right.old bags }
     requires i_bound { i < 4 }
@@ -278,7 +281,7 @@ fn operate(
     left: &mut [u16],
     right: &mut [u16],
     values: &mut [u16],
-    counts: &mut [u16],
+    counts: &mut Counts,
 ) -> Outcome
     requires pooled { Pooled left.old right.old bags }
     requires left_in_bounds { length left.old ≤ length values.old }
@@ -304,7 +307,7 @@ fn is_right(
     left: &[u16],
     right: &[u16],
     values: &[u16],
-    counts: &[u16],
+    counts: &Counts,
 ) -> bool {
     let tested = are_tested(bags, left, counts);
     if matches!(kind, Kind::Insert | Kind::Take) && round % 16 != 0 {
@@ -321,7 +324,7 @@ fn play(
     left: &mut [u16],
     right: &mut [u16],
     values: &mut [u16],
-    counts: &mut [u16],
+    counts: &mut Counts,
 ) -> Outcome
     requires pooled { Pooled left.old right.old bags }
     requires left_in_bounds { length left.old ≤ length values.old }
@@ -338,7 +341,7 @@ fn play(
 }
 
 // All rounds, one after the other. The counts are 0 before.
-fn rounds(left: &mut [u16], right: &mut [u16], values: &mut [u16], counts: &mut [u16]) -> Tally
+fn rounds(left: &mut [u16], right: &mut [u16], values: &mut [u16], counts: &mut Counts) -> Tally
     requires { Room 300 left.old right.old values.old }
 {
     let mut bags = family::start(left, right, POOL_NODES);
@@ -357,6 +360,6 @@ pub fn run(rt: &impl Print) -> io::Result<()> {
     let mut left = [0u16; 301];
     let mut right = [0u16; 301];
     let mut values = [0u16; 301];
-    let mut counts = [0u16; 200];
+    let mut counts = [[0u16; ROW_PLACES]; 4];
     rounds(&mut left, &mut right, &mut values, &mut counts).print(rt, "random operations")
 }

@@ -1,21 +1,21 @@
 // What reading a file must answer and give, found in another way than the library's: without marks,
 // by the list of all records in the order in which the chains meet them.
-use testkit::files::word;
+use testkit::files::{first, word};
 use testkit::reading::Lengths;
 use testkit::sample::{after, file_length, record_place};
 use testkit::words::put;
 
-// 1 or 2 for the first `length` bytes.
-fn check_header(file: &[u8], length: usize) -> Result<(), usize> {
+// 1 or 2, by the first words of the file and its length.
+fn check_header(file: &[u8]) -> Result<(), usize> {
     let n = word(file, 0);
     let m = word(file, 1);
-    if length < 4 {
+    if file.len() < 4 {
         return Err(1);
     }
     if n == 0 || 4096 < n || 32768 < m {
         return Err(2);
     }
-    if length != file_length(n, m) {
+    if file.len() != file_length(n, m) {
         return Err(1);
     }
     Ok(())
@@ -140,7 +140,7 @@ fn check(
 ) -> Result<(), usize> {
     let vertices = word(file, 0);
     let edges = word(file, 1);
-    check_header(file, lengths.file)?;
+    check_header(first(file, lengths.file))?;
     check_words(file, vertices, edges)?;
     check_lists(lengths, vertices, edges)?;
     let walk = Walk {

@@ -2,7 +2,7 @@
 // length, an n or an m that is refused.
 use crate::inputs::{put_file_word, put_square};
 use crate::replies::answers;
-use testkit::files::{put_word, stamp};
+use testkit::files::{first, put_word, stamp};
 use testkit::group::{Tally, all};
 
 // Each input is cut at lengths 0 to 99.
@@ -76,7 +76,8 @@ fn is_right(kind: Input, length: u16) -> bool {
     stamp(&mut input, 3);
     put_square(&mut input, SQUARE_EVENTS);
     spoil(&mut input, kind);
-    answers(&input, usize::from(length), 4, expected(kind, length))
+    let cut = first(&input, usize::from(length));
+    answers(cut, 4, expected(kind, length))
 }
 
 pub fn run() -> Tally {

@@ -4,7 +4,7 @@ use crate::inputs::{file_start, put_square};
 use crate::replies::ask;
 use searchkit::requests::{Seen, is_played};
 use std::io;
-use testkit::files::{at, put, word};
+use testkit::files::{at, first, put, word};
 use testkit::group::Tally;
 use testkit::random::{below, leap, next};
 use testkit::sample::after;
@@ -85,7 +85,8 @@ fn number_of(round: u16, seed: u64) -> Option<usize> {
     let mut parents = [0u16; 512];
     let length = usize::from(make(&mut input, round, seed));
     let vertices = vertices_in(&input);
-    let seen = ask(&input, length, vertices, &mut distances, &mut parents)?;
+    let cut = first(&input, length);
+    let seen = ask(cut, vertices, &mut distances, &mut parents)?;
     is_counted(seen, word(&input, 2)).then_some(seen.number)
 }
 

@@ -4,33 +4,27 @@ use crate::replies::ask;
 use searchkit::plans::{Plan, judge};
 use searchkit::requests::{Seen, is_played};
 use searchkit::{events, random_plans};
+use testkit::files::{first, lent};
 use testkit::random::leap;
 use testkit::sample::{draw_file, file_length};
 
 // Each workers' number with each mixture and each kind of length, twice.
 pub const ROUND_COUNT: u16 = 320;
 
-// The words of the input and the length of its file.
+// The words of the input.
 fn parts_of(plan: Plan) -> Parts {
     Parts {
         source: plan.source,
         workers: plan.workers,
         events: (plan.length % 65536) as u16,
-        file: (file_length(plan.vertices, plan.edges) % 65536) as u16,
     }
 }
 
 // Asks, and judges a search that was played.
-fn judged(
-    input: &[u8],
-    length: usize,
-    plan: Plan,
-    rows: &[u16],
-    row_targets: &[u16],
-) -> Option<Seen> {
+fn judged(input: &[u8], plan: Plan, rows: &[u16], row_targets: &[u16]) -> Option<Seen> {
     let mut distances = [0u16; 512];
     let mut parents = [0u16; 512];
-    let seen = ask(input, length, plan.vertices, &mut distances, &mut parents)?;
+    let seen = ask(input, plan.vertices, &mut distances, &mut parents)?;
     if is_played(seen.number) {
         let labels = judge(seen, plan, &distances, &parents, rows, row_targets);
         return labels.right.then_some(seen);
@@ -56,9 +50,10 @@ fn draw(plan: Plan, rows: &mut [u16], row_targets: &mut [u16], input: &mut [u8])
         plan.seed,
     );
     let seed = leap(leap(leap(plan.seed)));
-    let length = plan.length as usize;
-    events::draw(&mut schedule, length, plan.mixture, plan.workers, seed);
-    compose(input, parts_of(plan), &schedule, &file)
+    let drawn = lent(&mut schedule, plan.length as usize);
+    events::draw(drawn, plan.mixture, plan.workers, seed);
+    let whole = first(&file, file_length(plan.vertices, plan.edges));
+    compose(input, parts_of(plan), &schedule, whole)
 }
 
 // Draws such an input. The answer is its length.
@@ -74,8 +69,8 @@ pub fn run(plan: Plan, more: u16) -> Option<Seen> {
     let mut row_targets = [0u16; 2048];
     let mut input = [0u8; 70000];
     let length = draw(plan, &mut rows, &mut row_targets, &mut input);
-    let given = length.wrapping_add(usize::from(more));
-    judged(&input, given, plan, &rows, &row_targets)
+    let given = first(&input, length.wrapping_add(usize::from(more)));
+    judged(given, plan, &rows, &row_targets)
 }
 
 // A round: every drawn input is accepted and played.

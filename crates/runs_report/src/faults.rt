@@ -2,7 +2,8 @@
 use crate::inputs::{Parts, compose};
 use crate::replies::answers;
 use searchkit::base::{FILE, SCHEDULE};
-use testkit::files::{put, put_word, put_words};
+use searchkit::faults::{either, has};
+use testkit::files::{first, put, put_word, put_words};
 
 pub const COMBINATIONS: u16 = 16384;
 
@@ -50,15 +51,6 @@ fn expected(combination: u16) -> u16 {
     0
 }
 
-// The first word where the fault is there, else the second.
-fn either(combination: u16, fault: u16, faulty: u16, good: u16) -> u16 {
-    if combination & fault == fault {
-        faulty
-    } else {
-        good
-    }
-}
-
 // Case A's file: no vertex, too many edges for the program, a head above m, a target of n.
 fn make_file(file: &mut [u8], combination: u16) {
     put_words(file, &FILE);
@@ -84,21 +76,25 @@ fn make_schedule(schedule: &mut [u8], combination: u16) {
     );
 }
 
-// The words of the input and the length of its file.
+// The words of the input.
 fn parts_of(combination: u16) -> Parts {
     let events = either(combination, SHORT_SCHEDULE, 1, 26);
-    let length = either(combination, CUT_FILE, 27, 28);
     Parts {
         source: either(combination, FAR_SOURCE, 4, 0),
         workers: either(combination, NINE_WORKERS, 9, 2),
         events: either(combination, LONG_SCHEDULE, 8193, events),
-        file: either(combination, UNDER_FOUR_BYTES, 3, length),
     }
+}
+
+// The length of the file.
+fn file_length(combination: u16) -> usize {
+    let length = either(combination, CUT_FILE, 27, 28);
+    usize::from(either(combination, UNDER_FOUR_BYTES, 3, length))
 }
 
 // How much of the input is given.
 fn given(combination: u16, length: usize) -> usize {
-    if combination & UNDER_THREE_WORDS == UNDER_THREE_WORDS {
+    if has(combination, UNDER_THREE_WORDS) {
         5
     } else {
         length
@@ -112,6 +108,8 @@ pub fn is_right(combination: u16) -> bool {
     make_file(&mut file, combination);
     make_chains(&mut file, combination);
     make_schedule(&mut schedule, combination);
-    let length = compose(&mut input, parts_of(combination), &schedule, &file);
-    answers(&input, given(combination, length), 4, expected(combination))
+    let lent = first(&file, file_length(combination));
+    let length = compose(&mut input, parts_of(combination), &schedule, lent);
+    let cut = first(&input, given(combination, length));
+    answers(cut, 4, expected(combination))
 }

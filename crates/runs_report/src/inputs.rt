@@ -1,15 +1,14 @@
 // Inputs of the program: three words, the schedule, the file.
 use searchkit::base::{FILE, SCHEDULE};
 use searchkit::requests::Request;
-use testkit::files::{copy, put_word_at, put_words};
+use testkit::files::{copy, first, put_word_at, put_words};
 
-// The words of an input, and the length of its file in bytes.
+// The words of an input. The events are a number that it says: its schedule may be shorter.
 #[derive(Clone, Copy)]
 pub struct Parts {
     pub source: u16,
     pub workers: u16,
     pub events: u16,
-    pub file: u16,
 }
 
 // Where the file starts.
@@ -32,9 +31,9 @@ pub fn put_file_word(input: &mut [u8], events: u16, place: u16, word: u16) {
 pub fn compose(input: &mut [u8], parts: Parts, schedule: &[u8], file: &[u8]) -> usize {
     let start = file_start(parts.events);
     put_head(input, parts.source, parts.workers, parts.events);
-    copy(schedule, usize::from(parts.events), input, 6);
-    copy(file, usize::from(parts.file), input, start);
-    start.wrapping_add(usize::from(parts.file))
+    copy(first(schedule, usize::from(parts.events)), input, 6);
+    copy(file, input, start);
+    start.wrapping_add(file.len())
 }
 
 // Case A's input with the first bytes of its schedule. The answer is its length.
@@ -45,7 +44,6 @@ pub fn put_square(input: &mut [u8], events: u16) -> usize {
         source: 0,
         workers: 2,
         events,
-        file: 28,
     };
     compose(input, parts, &SCHEDULE, &file)
 }
@@ -56,6 +54,5 @@ pub fn parts_of(request: Request) -> Parts {
         source: request.source,
         workers: request.workers,
         events: (request.schedule % 65536) as u16,
-        file: (request.file % 65536) as u16,
     }
 }

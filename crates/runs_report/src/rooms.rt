@@ -1,8 +1,9 @@
 // Output lists of every length: one that is too short is left as it is, with the answer 0; what lies
 // behind the text of a longer one is kept.
+use crate::answer_text::read;
 use crate::inputs::{put_file_word, put_head};
-use crate::replies::{BLANK, read, respond};
-use testkit::files::is_filled;
+use crate::replies::BLANK;
+use testkit::files::{first, is_filled, lent};
 use testkit::group::{Tally, all};
 
 // The lengths.
@@ -21,12 +22,13 @@ const INPUT_TABLE: [[u16; 4]; 3] = [
     [512, 1034, 21, 3995],
 ];
 
-// Whether the first bytes of the output are the text that is expected, and the rest is kept.
+// Whether the first bytes of the output are the text that is expected, and the rest is kept. `count` is
+// what the call answered, and is compared.
 fn is_written(output: &[u8], count: usize, row: [u16; 4]) -> bool {
     let [vertices, _, number, length] = row;
     let mut distances = [0u16; 512];
     let mut parents = [0u16; 512];
-    let text = read(output, count, vertices, &mut distances, &mut parents).is_some_and(
+    let text = read(first(output, count), vertices, &mut distances, &mut parents).is_some_and(
         |seen| seen.number == usize::from(number),
     );
     text & (count == usize::from(length)) & is_filled(output, count, BLANK)
@@ -38,7 +40,8 @@ fn is_right(row: [u16; 4], places: usize) -> bool {
     let mut output = [BLANK; 8300];
     put_head(&mut input, 0, 1, 0);
     put_file_word(&mut input, 0, 0, vertices);
-    let count = respond(&input, usize::from(length), &mut output, places);
+    let cut = first(&input, usize::from(length));
+    let count = report::respond(cut, lent(&mut output, places));
     if places < OUTPUT_NEED {
         return (count == 0) & is_filled(&output, 0, BLANK);
     }

@@ -1,15 +1,15 @@
 // Outputs written whole: document 01's cases, a search that a short schedule leaves at each of its
 // first moves, and an empty input.
 use crate::inputs::{compose, parts_of, put_square};
-use crate::replies::{BLANK, respond};
+use crate::replies::BLANK;
 use searchkit::bench;
 use std::io;
 use testkit::files::{first, put};
 
 // Writes a name and the output.
-fn show(rt: &impl Print, name: &str, input: &[u8], length: usize) -> io::Result<()> {
+fn show(rt: &impl Print, name: &str, input: &[u8]) -> io::Result<()> {
     let mut output = [BLANK; 8280];
-    let count = respond(input, length, &mut output, 8280);
+    let count = report::respond(input, &mut output);
     println!(rt; "{name}")?;
     rt.write_all(first(&output, count))
 }
@@ -18,7 +18,7 @@ fn show(rt: &impl Print, name: &str, input: &[u8], length: usize) -> io::Result<
 fn square(rt: &impl Print, name: &str, events: u16) -> io::Result<()> {
     let mut input = [0u8; 64];
     let length = put_square(&mut input, events);
-    show(rt, name, &input, length)
+    show(rt, name, first(&input, length))
 }
 
 // Case B: events 18 and 19 are swapped.
@@ -27,7 +27,7 @@ fn swapped(rt: &impl Print, name: &str) -> io::Result<()> {
     let length = put_square(&mut input, 25);
     put(&mut input, 23, 0);
     put(&mut input, 24, 8);
-    show(rt, name, &input, length)
+    show(rt, name, first(&input, length))
 }
 
 // Cases C to I, from row 0 on.
@@ -37,9 +37,10 @@ fn point(rt: &impl Print, name: &str, row: u16) -> io::Result<()> {
     let mut input = [0u8; 64];
     bench::make_file(&mut file, row);
     bench::make_schedule(&mut schedule, row);
-    let parts = parts_of(bench::point(row));
-    let length = compose(&mut input, parts, &schedule, &file);
-    show(rt, name, &input, length)
+    let request = bench::point(row);
+    let lent = first(&file, request.file);
+    let length = compose(&mut input, parts_of(request), &schedule, lent);
+    show(rt, name, first(&input, length))
 }
 
 fn points(rt: &impl Print) -> io::Result<()> {
@@ -76,5 +77,5 @@ pub fn run(rt: &impl Print) -> io::Result<()> {
     swapped(rt, "case B")?;
     points(rt)?;
     starts(rt)?;
-    show(rt, "empty input", &[], 0)
+    show(rt, "empty input", &[])
 }

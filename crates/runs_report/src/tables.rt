@@ -4,7 +4,7 @@ use crate::inputs::{compose, parts_of, put_file_word, put_head};
 use crate::replies::answers;
 use searchkit::base::{FILE, SCHEDULE};
 use searchkit::refusals;
-use testkit::files::{put_words, word};
+use testkit::files::{first, put_words, word};
 
 // Up to 4 bytes of file, with m 0: the input's length; the sheet length; n; the number. The source is
 // 0, one worker; all other bytes are 0.
@@ -92,7 +92,7 @@ fn is_answered(length: u16, events: u16, n: u16, m: u16, number: u16) -> bool {
     put_head(&mut input, 0, 1, events);
     put_file_word(&mut input, events, 0, n);
     put_file_word(&mut input, events, 1, m);
-    answers(&input, usize::from(length), n, number)
+    answers(first(&input, usize::from(length)), n, number)
 }
 
 // A case of the first table.
@@ -120,10 +120,11 @@ fn file_is_right(row: u16) -> bool {
     let mut file = [0u8; 32];
     let mut input = [0u8; 100];
     refusals::make_file(&mut file, row);
-    let parts = parts_of(refusals::file_request(row));
-    let length = compose(&mut input, parts, &SCHEDULE, &file);
+    let request = refusals::file_request(row);
+    let lent = first(&file, request.file);
+    let length = compose(&mut input, parts_of(request), &SCHEDULE, lent);
     let number = own_number(refusals::file_number(row), word(&file, 0), word(&file, 1));
-    answers(&input, length, 4, number)
+    answers(first(&input, length), 4, number)
 }
 
 // Case A with another source, other workers or another schedule.
@@ -135,7 +136,7 @@ fn call_is_right(row: u16) -> bool {
     refusals::make_schedule(&mut schedule, row);
     let parts = parts_of(refusals::call_request(row));
     let length = compose(&mut input, parts, &schedule, &file);
-    answers(&input, length, 4, refusals::call_number(row))
+    answers(first(&input, length), 4, refusals::call_number(row))
 }
 
 // A case of `searchkit`'s tables.

@@ -3,6 +3,7 @@ use crate::rooms::{Large, Room, Small};
 use searchkit::plans::{Plan, judge, request_of};
 use searchkit::requests::{Lengths, Report, is_played};
 use searchkit::{events, random_plans, short_lists, sizes};
+use testkit::contents;
 use testkit::random::leap;
 use testkit::sample::{Graph, draw_file};
 
@@ -75,8 +76,8 @@ fn run(plan: Plan, lengths: Lengths) -> Report {
     );
     let mut schedule = [0u8; 450000];
     let seed = leap(leap(leap(plan.seed)));
-    let length = plan.length as usize;
-    events::draw(&mut schedule, length, plan.mixture, plan.workers, seed);
+    let drawn = contents::lent(&mut schedule, plan.length as usize);
+    events::draw(drawn, plan.mixture, plan.workers, seed);
     let graph = Graph {
         file: &file,
         rows: &rows,

@@ -56,7 +56,7 @@ pub fn cut_report(case: u16) -> Report {
         &mut rows,
         &mut order,
     );
-    events::draw(&mut schedule, 400, plan.mixture, plan.workers, plan.seed);
+    events::draw(&mut schedule, plan.mixture, plan.workers, plan.seed);
     let graph = Graph {
         file: &file,
         rows: &rows,
@@ -94,7 +94,7 @@ pub fn path_report(case: u16) -> Report {
         &mut rows,
         &mut order,
     );
-    events::draw(&mut schedule, paths::BYTES, 0, 1, 1);
+    events::draw(&mut schedule, 0, 1, 1);
     let graph = Graph {
         file: &file,
         rows: &rows,

@@ -53,7 +53,7 @@ fn point(row: u16) -> Report {
     let mut schedule = [0u8; 2];
     bench::make_file(&mut file, row);
     bench::make_schedule(&mut schedule, row);
-    let number = bench::cell(row, 10);
+    let (number, events) = bench::answer(row);
     let graph = Graph {
         file: &file,
         rows: &[0, 0],
@@ -64,7 +64,7 @@ fn point(row: u16) -> Report {
     let labels = (report.digest == 11102221333) == is_played(seen.number);
     Report {
         digest: 0,
-        right: report.right & is_answer(seen, number, bench::cell(row, 11), 0) & labels,
+        right: report.right & is_answer(seen, number, events, 0) & labels,
         ..report
     }
 }

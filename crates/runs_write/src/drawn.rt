@@ -1,5 +1,6 @@
 // Rows of drawn graphs, of any size and at any lengths of the lists.
 use crate::writing::{Lengths, answers};
+use testkit::files::first;
 use testkit::sample::{draw, encode_in_order, file_length};
 
 // Draws a graph and makes the file that is wanted of it.
@@ -18,7 +19,6 @@ pub fn is_right(vertices: u16, edges: u16, lengths: Lengths, number: usize) -> b
     let mut file = [0u8; 139280];
     make(&mut offsets, &mut targets, &mut want, vertices, edges);
     let length = file_length(vertices, edges);
-    answers(
-        &offsets, &targets, &mut file, lengths, number, &want, length,
-    )
+    let whole = first(&want, length);
+    answers(&offsets, &targets, &mut file, lengths, number, whole)
 }

@@ -2,7 +2,7 @@
 // cuts the lists to given lengths, and sees that no byte is changed.
 use crate::writing::{Lengths, refuses, writes};
 use std::io;
-use testkit::files::put_words;
+use testkit::files::{first, put_words};
 use testkit::group::{Tally, all};
 use testkit::words::put;
 
@@ -79,27 +79,27 @@ fn table() -> Tally {
     all(CASES.iter(), is_right)
 }
 
-// Whether the first places of these offsets and of the good targets are written as these words,
-// into just as many bytes or more.
-fn is_written(offsets: &[u16], places: usize, edges: usize, words: &[u16], length: usize) -> bool {
+// Whether the rows are written as these words, into just as many bytes or more.
+fn is_written(offsets: &[u16], targets: &[u16], words: &[u16]) -> bool {
     let mut want = [0u8; 64];
     let mut file = [0u8; 64];
     put_words(&mut want, words);
+    let whole = first(&want, words.len().wrapping_mul(2));
     let exact = Lengths {
-        offsets: places,
-        targets: edges,
-        file: length,
+        offsets: offsets.len(),
+        targets: targets.len(),
+        file: whole.len(),
     };
     let longer = Lengths { file: 64, ..exact };
-    let first = writes(offsets, &TARGETS, &mut file, exact, &want, length);
-    first & writes(offsets, &TARGETS, &mut file, longer, &want, length)
+    let fits = writes(offsets, targets, &mut file, exact, whole);
+    fits & writes(offsets, targets, &mut file, longer, whole)
 }
 
 // Files by hand: the good rows, the same with a fifth vertex, and rows with no edge.
 fn accepted() -> Tally {
-    let four = is_written(&OFFSETS, 5, 4, &FOUR, 28);
-    let five = is_written(&OFFSETS, 6, 4, &FIVE, 30);
-    let none = is_written(&[0, 0, 0, 0], 4, 0, &[3, 0, 0, 0, 0], 10);
+    let four = is_written(&OFFSETS[..5], &TARGETS[..4], &FOUR);
+    let five = is_written(&OFFSETS[..6], &TARGETS[..4], &FIVE);
+    let none = is_written(&[0, 0, 0, 0], &[], &[3, 0, 0, 0, 0]);
     Tally::new().with(four).with(five).with(none)
 }
 

@@ -2,10 +2,11 @@
 // and written. Empty rows, parallel edges and edges to oneself come up by themselves.
 use crate::writing;
 use std::io;
+use testkit::files::first;
 use testkit::group::Tally;
 use testkit::random::{below, leap, next};
 use testkit::reading;
-use testkit::sample::{draw, encode_in_order, encode_shuffled, file_length};
+use testkit::sample::{draw, encode_in_order, encode_shuffled};
 
 const ROUND_COUNT: u16 = 200;
 
@@ -82,14 +83,9 @@ impl Sample {
 
     // Whether the writer makes its file of these rows.
     fn is_written(&self, offsets: &[u16], targets: &[u16], file: &mut [u8]) -> bool {
-        writing::writes(
-            offsets,
-            targets,
-            file,
-            writing::needs(self.vertices, self.edges),
-            &self.canonical,
-            file_length(self.vertices, self.edges),
-        )
+        let need = writing::needs(self.vertices, self.edges);
+        let want = first(&self.canonical, need.file);
+        writing::writes(offsets, targets, file, need, want)
     }
 
     // Whether the graph's rows are read from this file.

@@ -1,7 +1,7 @@
 // Calls of `writer::write`, each compared in full with what it must answer and leave. The lent bytes
 // have known contents at entry, and the lists may be longer than what is lent of them.
 use numbers::{Refused, told};
-use testkit::files::{agree, is_stamped, stamp};
+use testkit::files::{is_stamped, stamp};
 use testkit::sample::file_length;
 use testkit::words::{first, lent};
 
@@ -52,19 +52,17 @@ pub fn refuses(
     (told(&answer) == number) & is_stamped(file, 0, TAG)
 }
 
-// Whether the rows are written as the first `length` bytes of `want`, and the bytes past the need
-// are as they were.
+// Whether the rows are written as the bytes of `want`, and the bytes past them are as they were.
 pub fn writes(
     offsets: &[u16],
     targets: &[u16],
     file: &mut [u8],
     lengths: Lengths,
     want: &[u8],
-    length: usize,
 ) -> bool {
     stamp(file, TAG);
     let answer = write_at(offsets, targets, file, lengths);
-    answer.is_ok() & agree(file, want, length) & is_stamped(file, length, TAG)
+    answer.is_ok() & file.starts_with(want) & is_stamped(file, want.len(), TAG)
 }
 
 // `writes` where the number is 0, else `refuses`.
@@ -75,10 +73,9 @@ pub fn answers(
     lengths: Lengths,
     number: usize,
     want: &[u8],
-    length: usize,
 ) -> bool {
     if number == 0 {
-        writes(offsets, targets, file, lengths, want, length)
+        writes(offsets, targets, file, lengths, want)
     } else {
         refuses(offsets, targets, file, lengths, number)
     }

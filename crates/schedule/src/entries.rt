@@ -1,4 +1,4 @@
-// The table of event bytes, which `decode`, the engine and the form check go by.
+// The entries of the table of event bytes, which `decode`, the engine and the form check go by.
 ghost use Rattle.std.specs.Prelude.{◌≡◌};
 ghost use Rattle.schedule.specs.Table.{byte_table};
 
@@ -41,11 +41,11 @@ const TABLE: [u8; 768] = *b"\
     \x04\x00\x00\x04\x00\x00\x04\x00\x00\x04\x00\x00\x04\x00\x00\x04\x00\x00\x04\x00\x00\x04\x00\x00\
 ";
 
-// The kind of a malformed entry.
+// The kind of a malformed entry. Kinds are numbers in the table, whose entries document 01 names; a
+// look-up gives an `Event`.
 pub const MALFORMED_KIND: usize = 4;
 
-// The table. The compiler builds a constant where it is used, so a function with a loop has this one
-// built once, ahead of the loop, and lends it.
+// The entries of all bytes.
 pub fn byte_table() -> [u8; 768]
     ensures { result ≡ byte_table }
 {

@@ -1,5 +1,5 @@
 // A schedule (document 01: event sheet) is a list of event bytes. `decode` says what event a byte is;
-// `look_up` says it by a table that the caller lends, and the engine plays by that.
+// `EventTable::look_up` says it by a table that is made once, and the engine plays by that.
 // `check_schedule` says whether a schedule is taken. All go by one table, module `entries`.
 #![tactic(auto)]
 
@@ -26,30 +26,60 @@ pub enum Event {
     Malformed,
 }
 
-// What a byte's entry has in a place: kind in 0, w in 1, v in 2.
-fn entry(table: &[u8; 768], byte: u8, place: usize) -> usize
-    requires table_value { table.now ≡ byte_table }
-    requires place_bound { place < 3 }
-    ensures { result ≡ get_or (entry_of (event_of byte)) place 0 }
-{
-    usize::from(table[3 * usize::from(byte) + place])
+// The table of event bytes. A value has the entries that the formula gives, so a look-up asks nothing
+// of its caller.
+#[derive(Drop)]
+pub struct EventTable {
+    pub entries: [u8; 768],
+    pub ghost whole: { entries ≡ byte_table },
 }
 
-// The event of a byte, by the table that the caller lends: a run has it built once, ahead of its
-// events.
-pub fn look_up(table: &[u8; 768], byte: u8) -> Event
-    requires { table.now ≡ byte_table }
-    ensures { result ≡ event_of byte }
-{
-    let kind = entry(table, byte, 0);
-    let w = entry(table, byte, 1);
-    let v = entry(table, byte, 2);
-    match kind {
-        0 => Event::Work { worker: w },
-        1 => Event::Split { taker: w, giver: v },
-        2 => Event::Unite { giver: w, taker: v },
-        3 => Event::Close,
-        _ => Event::Malformed,
+impl EventTable {
+    // The compiler builds a constant where it is used, so a function with a loop makes its table
+    // once, ahead of the loop.
+    pub fn new() -> Self
+        ensures { result.entries ≡ byte_table }
+    {
+        EventTable {
+            entries: byte_table(),
+        }
+    }
+
+    // What a byte's entry has in a place: kind in 0, w in 1, v in 2.
+    fn entry(&self, byte: u8, place: usize) -> usize
+        requires { place < 3 }
+        ensures { result ≡ get_or (entry_of (event_of byte)) place 0 }
+    {
+        usize::from(self.entries[3 * usize::from(byte) + place])
+    }
+
+    // The event of a byte.
+    pub fn look_up(&self, byte: u8) -> Event
+        ensures { result ≡ event_of byte }
+    {
+        let kind = self.entry(byte, 0);
+        let w = self.entry(byte, 1);
+        let v = self.entry(byte, 2);
+        match kind {
+            0 => Event::Work { worker: w },
+            1 => Event::Split { taker: w, giver: v },
+            2 => Event::Unite { giver: w, taker: v },
+            3 => Event::Close,
+            _ => Event::Malformed,
+        }
+    }
+
+    // Whether a byte's event is one of document 01's and all its workers are there. It makes every
+    // test and branches on none. That P is 1 at least is tested by `check_schedule` alone, so it is no
+    // type of its own.
+    fn byte_fits(&self, byte: u8, workers: usize) -> bool
+        requires { 1 ≤ workers }
+        ensures { result ≡ within workers (event_of byte) }
+    {
+        let kind = self.entry(byte, 0);
+        let w = self.entry(byte, 1);
+        let v = self.entry(byte, 2);
+        (kind != MALFORMED_KIND) & (w < workers) & (v < workers)
     }
 }
 
@@ -57,21 +87,7 @@ pub fn look_up(table: &[u8; 768], byte: u8) -> Event
 pub fn decode(byte: u8) -> Event
     ensures { result ≡ event_of byte }
 {
-    let table = byte_table();
-    look_up(&table, byte)
-}
-
-// Whether a byte's event is one of document 01's and all its workers are there. It makes every test
-// and branches on none.
-fn byte_fits(table: &[u8; 768], byte: u8, workers: usize) -> bool
-    requires table_value { table.now ≡ byte_table }
-    requires le_workers { 1 ≤ workers }
-    ensures { result ≡ within workers (event_of byte) }
-{
-    let kind = entry(table, byte, 0);
-    let w = entry(table, byte, 1);
-    let v = entry(table, byte, 2);
-    (kind != MALFORMED_KIND) & (w < workers) & (v < workers)
+    EventTable::new().look_up(byte)
 }
 
 // For each byte whether it fits P workers: looked up once, ahead of a schedule in which it may stand
@@ -80,10 +96,10 @@ fn bytes_that_fit(workers: usize) -> [bool; 256]
     requires { 1 ≤ workers }
     ensures { Fits workers result }
 {
-    let table = byte_table();
+    let table = EventTable::new();
     let mut fits = [false; 256];
     for byte in 0..=255 {
-        fits[usize::from(byte)] = byte_fits(&table, byte, workers);
+        fits[usize::from(byte)] = table.byte_fits(byte, workers);
     }
     fits
 }

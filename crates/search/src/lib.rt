@@ -7,7 +7,8 @@ mod call;
 pub use call::{number, search};
 pub use engine::{Answer, Ending};
 
-// The lengths of the lent lists.
+// The lengths of the lent lists, without the lists: so the tests come before any list is lent on. The
+// checker's are other lists.
 #[derive(Clone, Copy)]
 pub struct Lengths {
     pub offsets: usize,

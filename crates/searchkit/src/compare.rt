@@ -4,7 +4,7 @@ use crate::counts::places;
 use crate::requests::{Request, Seen, is_played};
 use testkit::contents::is_filled;
 pub use testkit::reading::cleared;
-use testkit::words::{agree, holds};
+use testkit::words::{first, holds};
 
 // What the lists hold before a call, at every place.
 pub const OFFSETS_TAG: u16 = 7777;
@@ -36,10 +36,12 @@ pub fn are_rows(
     n: usize,
     m: usize,
 ) -> bool {
-    let starts = n.wrapping_add(1);
-    let first = agree(offsets, rows, starts) & agree(targets, row_targets, m) & holds(marks, m, 0);
-    let rest = is_filled(offsets, starts, OFFSETS_TAG) & is_filled(targets, m, TARGETS_TAG);
-    first & rest & is_filled(marks, m, MARKS_TAG)
+    let starts = first(rows, n.wrapping_add(1));
+    let ends = first(row_targets, m);
+    let written = offsets.starts_with(starts) & targets.starts_with(ends) & holds(marks, m, 0);
+    let offsets_kept = is_filled(offsets, n.wrapping_add(1), OFFSETS_TAG);
+    let rest = offsets_kept & is_filled(targets, m, TARGETS_TAG);
+    written & rest & is_filled(marks, m, MARKS_TAG)
 }
 
 // Whether distances, parents and counts are as they were from a place on.
@@ -50,11 +52,12 @@ pub fn are_labels_kept(distances: &[u16], parents: &[u16], histogram: &[u16], fr
     reached & named & is_filled(histogram, place, HISTOGRAM_TAG)
 }
 
-// Whether the first places of the node lists are 0, and the others as they were.
+// Whether the first places of the node lists are 0, and the others as they were. The count is what a
+// call had to clear, whatever the lists' length: the whole lists are looked at.
 pub fn are_nodes_cleared(left: &[u16], right: &[u16], values: &[u16], count: usize) -> bool {
-    let first = holds(left, count, 0) & holds(right, count, 0) & holds(values, count, 0);
+    let zeros = holds(left, count, 0) & holds(right, count, 0) & holds(values, count, 0);
     let rest = is_filled(left, count, LEFT_TAG) & is_filled(right, count, RIGHT_TAG);
-    first & rest & is_filled(values, count, VALUES_TAG)
+    zeros & rest & is_filled(values, count, VALUES_TAG)
 }
 
 // Whether offsets and targets are as they were, and the marks but for the first `zeros`.
@@ -75,11 +78,6 @@ pub fn used_nodes(number: usize, vertices: u16, workers: u16) -> usize {
     } else {
         0
     }
-}
-
-// Zeros stand beside a refusal's number.
-fn is_bare(seen: Seen) -> bool {
-    (seen.used == 0) & (seen.effective == 0) & (seen.layer == 0)
 }
 
 // Whether the call left rows and marks as its number says.
@@ -105,5 +103,5 @@ pub fn is_left(
         );
     }
     let zeros = cleared(seen.number, request.edges);
-    is_bare(seen) & are_rows_kept(offsets, targets, marks, zeros)
+    are_rows_kept(offsets, targets, marks, zeros)
 }

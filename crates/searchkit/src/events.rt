@@ -89,10 +89,10 @@ fn pair(kind: Kind, workers: u16, seed: u64) -> u8 {
     event(kind, w, (w % 8 + further % 8 + 1) % workers)
 }
 
-// Draws the first `length` bytes of a schedule.
-pub fn draw(schedule: &mut [u8], length: usize, mixture: u16, workers: u16, seed: u64) {
+// Draws the bytes of a schedule.
+pub fn draw(schedule: &mut [u8], mixture: u16, workers: u16, seed: u64) {
     let mut pen = Pen { seed, round: None };
-    for byte in schedule.iter_mut().take(length) {
+    for byte in schedule {
         *byte = pen.draw(mixture, workers);
     }
 }

@@ -114,7 +114,7 @@ fn make_bytes(width: u16, schedule: &mut [u8]) {
 pub fn make_schedule(case: u16, schedule: &mut [u8]) {
     make_bytes(width_of(case), schedule);
     if case < LENGTHS {
-        files::copy(&SCHEDULE, 26, schedule, 0);
+        files::copy(&SCHEDULE, schedule, 0);
     }
 }
 

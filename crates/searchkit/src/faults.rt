@@ -58,8 +58,12 @@ pub fn has(combination: u16, fault: u16) -> bool {
 }
 
 // The first word where the fault is there, else the second.
-fn either(is_there: bool, faulty: u16, good: u16) -> u16 {
-    if is_there { faulty } else { good }
+pub fn either(combination: u16, fault: u16, faulty: u16, good: u16) -> u16 {
+    if has(combination, fault) {
+        faulty
+    } else {
+        good
+    }
 }
 
 // The number of the first fault, in the order of document 01; 0 where there is none.
@@ -73,15 +77,15 @@ pub fn expected(combination: u16) -> u16 {
 // The file: no vertex; a head above m; a target of n.
 pub fn make_file(file: &mut [u8], combination: u16) {
     put_words(file, &FILE);
-    put_word(file, 0, either(has(combination, NO_VERTEX), 0, 4));
-    put_word(file, 5, either(has(combination, LARGE_HEAD), 5, 0));
-    put_word(file, 12, either(has(combination, LARGE_TARGET), 4, 3));
+    put_word(file, 0, either(combination, NO_VERTEX, 0, 4));
+    put_word(file, 5, either(combination, LARGE_HEAD, 5, 0));
+    put_word(file, 12, either(combination, LARGE_TARGET, 4, 3));
 }
 
 // A record after itself; no head to a record.
 pub fn make_chains(file: &mut [u8], combination: u16) {
-    put_word(file, 11, either(has(combination, CYCLE), 3, 0));
-    put_word(file, 4, either(has(combination, NO_HEAD), 0, 4));
+    put_word(file, 11, either(combination, CYCLE, 3, 0));
+    put_word(file, 4, either(combination, NO_HEAD, 0, 4));
 }
 
 // The byte after the finishing one, or the only one, is not of the forms.
@@ -119,8 +123,8 @@ fn file_length(combination: u16) -> usize {
 // The request, with its own faults: the source, the workers, the file's length and the schedule's.
 pub fn request_of(combination: u16) -> Request {
     Request {
-        source: either(has(combination, LARGE_SOURCE), 4, 0),
-        workers: either(has(combination, MANY_WORKERS), 9, 2),
+        source: either(combination, LARGE_SOURCE, 4, 0),
+        workers: either(combination, MANY_WORKERS, 9, 2),
         vertices: 4,
         edges: 4,
         file: file_length(combination),

@@ -2,7 +2,7 @@
 // counts all distances are looked at.
 use crate::labels::UNSET;
 use crate::requests::{Seen, is_played};
-use testkit::words::{at, total};
+use testkit::words::{at, first, total};
 
 // How many of the first n distances are this one.
 fn standing(distances: &[u16], vertices: u16, distance: u16) -> usize {
@@ -33,7 +33,7 @@ pub fn are_counts(seen: Seen, distances: &[u16], histogram: &[u16], vertices: u1
     }
     let n = usize::from(vertices);
     let set = n.wrapping_sub(standing(distances, vertices, UNSET));
-    let is_total = total(histogram, 0, n) == set;
+    let is_total = total(first(histogram, n)) == set;
     let is_positive = seen.layer < usize::from(first_zero(histogram, vertices));
     is_recount(distances, histogram, vertices) & is_total & is_positive
 }

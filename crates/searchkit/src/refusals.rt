@@ -3,7 +3,7 @@
 use crate::base::FILE;
 use crate::requests::{Request, needs};
 use testkit::files::{put, put_word, put_words};
-use testkit::words::{cell, row_of};
+use testkit::words::row_of;
 
 // The cases of both tables.
 pub const ROWS: u16 = 79;
@@ -137,12 +137,13 @@ pub fn make_schedule(schedule: &mut [u8], row: u16) {
 
 // The request of a case of the first table. The lists are two places longer than their need.
 pub fn file_request(row: u16) -> Request {
+    let [length, ..] = row_of(&FILES, row);
     Request {
         source: 0,
         workers: 2,
         vertices: 4,
         edges: 4,
-        file: usize::from(cell(&FILES, row, 0)),
+        file: usize::from(length),
         schedule: 26,
         lengths: needs(4, 4, 8, 2),
     }
@@ -164,10 +165,12 @@ pub fn call_request(row: u16) -> Request {
 
 // The number of a case of the first table.
 pub fn file_number(row: u16) -> u16 {
-    cell(&FILES, row, 5)
+    let [.., number] = row_of(&FILES, row);
+    number
 }
 
 // The number of a case of the second table.
 pub fn call_number(row: u16) -> u16 {
-    cell(&CALLS, row, 5)
+    let [.., number] = row_of(&CALLS, row);
+    number
 }

@@ -2,7 +2,7 @@
 // workers. The lists are at their need.
 use crate::plans::Plan;
 use crate::requests::{Lengths, needs};
-use testkit::words::{cell, row_of};
+use testkit::words::row_of;
 
 pub const ROWS: u16 = 11;
 
@@ -42,5 +42,6 @@ pub fn lent(plan: Plan) -> Lengths {
 
 // The number of a case.
 pub fn number(row: u16) -> usize {
-    usize::from(cell(&CASES, row, 5))
+    let [.., number] = row_of(&CASES, row);
+    usize::from(number)
 }

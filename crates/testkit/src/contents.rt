@@ -41,18 +41,11 @@ pub fn is_filled<T: Copy + PartialEq>(list: &[T], from: usize, value: T) -> bool
     list.iter().skip(from).all(|x| *x == value)
 }
 
-// Whether the list has `count` places or more, and the first `count` hold the value.
+// Whether the list has `count` places or more, and the first `count` hold the value. The count is no
+// length of the list: one that passes its end is answered with false, which a cut slice could not tell.
 pub fn holds<T: Copy + PartialEq>(list: &[T], count: usize, value: T) -> bool {
     list.get(..count)
         .is_some_and(|first| first.iter().all(|x| *x == value))
-}
-
-// Whether both lists have `count` places or more, and agree in the first `count`.
-pub fn agree<T: PartialEq>(a: &[T], b: &[T], count: usize) -> bool {
-    match (a.get(..count), b.get(..count)) {
-        (Some(first), Some(second)) => first == second,
-        _ => false,
-    }
 }
 
 // The first places of a list, as many as are asked for, or all where it has fewer.

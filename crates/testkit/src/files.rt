@@ -1,11 +1,10 @@
 // The 16-bit words of a file, low byte first, and lists of bytes.
-pub use crate::contents::{agree, at, first, is_filled, is_stamped, lent, put, stamp, stamp_of};
+pub use crate::contents::{at, first, is_filled, is_stamped, lent, put, stamp, stamp_of};
 
-// Copies the first `count` bytes of a list to a place of another one, as far as that one goes; 0 for
-// what lies past the first one's end.
-pub fn copy(from: &[u8], count: usize, to: &mut [u8], place: usize) {
-    for (i, x) in to.iter_mut().skip(place).take(count).enumerate() {
-        *x = at(from, i);
+// Copies bytes to a place of a list, as far as the list goes.
+pub fn copy(bytes: &[u8], list: &mut [u8], place: usize) {
+    for (x, byte) in list.iter_mut().skip(place).zip(bytes) {
+        *x = *byte;
     }
 }
 

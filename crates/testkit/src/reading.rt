@@ -2,8 +2,8 @@
 // have known contents at entry, and may be longer than what is lent of them.
 use crate::files;
 use crate::sample::file_length;
-use crate::words::{agree, first, holds, is_stamped, lent, stamp};
-use graph::Survey;
+use crate::words::{first, holds, is_stamped, lent, stamp};
+use graph::Size;
 use numbers::Refused;
 
 // What `stamp` puts into the three lists before a call.
@@ -40,13 +40,13 @@ fn prepare(offsets: &mut [u16], targets: &mut [u16], marks: &mut [u16]) {
 }
 
 // Reads with the first places of each list.
-fn read_at<'a>(
-    file: &'a [u8],
+fn read_at(
+    file: &[u8],
     offsets: &mut [u16],
     targets: &mut [u16],
     marks: &mut [u16],
     lengths: Lengths,
-) -> Result<Survey<'a>, Refused> {
+) -> Result<Size, Refused> {
     graph::read(
         first(file, lengths.file),
         lent(offsets, lengths.offsets),
@@ -79,8 +79,9 @@ fn are_rows(
     n: usize,
     m: usize,
 ) -> bool {
-    let places = n.wrapping_add(1);
-    agree(offsets, rows, places) & agree(targets, row_targets, m) & holds(marks, m, 0)
+    let starts = first(rows, n.wrapping_add(1));
+    let ends = first(row_targets, m);
+    offsets.starts_with(starts) & targets.starts_with(ends) & holds(marks, m, 0)
 }
 
 // Whether the places past the need are as they were.
@@ -125,7 +126,7 @@ pub fn reads(
     prepare(offsets, targets, marks);
     let answer = read_at(file, offsets, targets, marks, lengths);
     let written = are_rows(offsets, targets, marks, rows, row_targets, n, m);
-    let sized = answer.is_ok_and(|survey| (survey.vertices == n) & (survey.edges == m));
+    let sized = answer.is_ok_and(|size| (size.vertices == n) & (size.edges == m));
     sized & written & is_rest_kept(offsets, targets, marks, n, m)
 }
 

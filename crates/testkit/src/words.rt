@@ -2,7 +2,7 @@
 ghost use Rattle.std.specs.Prelude.{◌<◌};
 
 use crate::contents;
-pub use crate::contents::{agree, at as at_place, first, holds, is_stamped, lent, stamp, stamp_of};
+pub use crate::contents::{at as at_place, first, holds, is_stamped, lent, stamp, stamp_of};
 
 // What stands at the place, or 0 past the end.
 pub fn at(list: &[u16], place: u16) -> u16 {
@@ -19,15 +19,10 @@ pub fn row_of<const COLUMNS: usize>(table: &[[u16; COLUMNS]], row: u16) -> [u16;
     table.get(usize::from(row)).copied().unwrap_or([0; COLUMNS])
 }
 
-// A place of a table; 0 outside it.
-pub fn cell<const COLUMNS: usize>(table: &[[u16; COLUMNS]], row: u16, column: usize) -> u16 {
-    contents::at(&row_of(table, row), column)
-}
-
-// The sum of the places from `base` on, so many of them.
-pub fn total(list: &[u16], base: usize, places: usize) -> usize {
-    let row = list.iter().skip(base).take(places);
-    row.fold(0, |sum: usize, count| sum.wrapping_add(usize::from(*count)))
+// The sum of a list.
+pub fn total(list: &[u16]) -> usize {
+    let counts = list.iter();
+    counts.fold(0, |sum: usize, count| sum.wrapping_add(usize::from(*count)))
 }
 
 // How many places a list has beyond one short of its need: 0, 1 or 6. Choices are numbers because they

@@ -1,11 +1,14 @@
 // Prints numbers and labels as text into a list of bytes, one behind the other. Each step is told at
 // which place to print and answers the place behind what it printed. The programs and the pages print
-// by these steps.
+// by these steps. Output and place stay parameters: a struct of both was tried, and each method had to
+// say besides that the list lent is the same one and keeps its length.
 #![tactic(auto)]
 
 ghost use Rattle.std.specs.Prelude.{◌≡◌, [], ◌∷◌, ◌++◌, ◌+◌, ◌<◌, ◌≤◌, max, length};
 ghost use Rattle.text.specs.Text.{decimal, label_text, right_aligned};
 ghost use Rattle.text.specs.Printed.{Prints};
+
+use numbers::WIDE_UNSET;
 
 // Between the fields of a line, and before one that is right-aligned.
 pub const SPACE: u8 = 32;
@@ -53,16 +56,15 @@ pub fn put_field(output: &mut [u8], at: usize, x: usize, width: usize, delimiter
 
 // A distance or a parent, `-` for unset, right-aligned in so many columns, and a space or a line feed
 // behind it.
-#[tactic(auto, using(crate::proofs::TextFacts::label_unset, crate::proofs::TextFacts::label_set))]
+#[tactic(auto, unfolding(crate::specs::Text::label_text))]
 pub fn put_label(output: &mut [u8], at: usize, word: usize, width: usize, delimiter: u8) -> usize
     requires { at + max width (length (label_text word)) < length output.old }
     ensures value { result ≡ at + max width (length (label_text word)) + 1 }
     ensures prints { Prints (right_aligned width (label_text word) ++ (delimiter ∷ []))
         output.old at output.new result }
 {
-    let unset = word == numbers::WIDE_UNSET;
-    if unset {
-        return put_aligned(output, at, b"-", width, delimiter);
+    match word {
+        WIDE_UNSET => put_aligned(output, at, b"-", width, delimiter),
+        _ => put_field(output, at, word, width, delimiter),
     }
-    put_field(output, at, word, width, delimiter)
 }

@@ -1,4 +1,4 @@
--- What the steps of the certificate read, against the definitions: one target further in a row, the parent and the label of one vertex by the words
+-- What the steps of the certificate read, against the definitions: one target further in a row, the parent and the label of one vertex by the labels
 -- that are read, and one vertex further.
 use mathlib.Core.Path.{◌≡◌, refl, sym, ap, ap₂, ◌∙◌}
 use mathlib.Core.Bool.{Bool, true, false, cond, not, ◌||◌}
@@ -10,9 +10,11 @@ use native.Mathlib.Omega.{arith}
 use lib.Dec.{eqb}
 use lib.ListN.{length, get_or, drop, length-map, drop_of_length-le, get_or-eq_default}
 use lib.Seq.{drop-cons}
-use borrow.Author.Tests.{eqb-true, lt-ltb, le-ltb, eq-eqb, ne_eqb}
-use Rattle.numbers.specs.Numbers.{unset}
+use borrow.Author.Tests.{eq-eqb, ne_eqb}
 use Rattle.std.specs.List.{list_any}
+use Rattle.std.specs.Prelude as code
+use Rattle.std.specs.Prelude.{Some, None, is_some}
+use Rattle.std.specs.Option.{option_eq}
 use Rattle.lists.specs.Lists.{numbers_from, elem, reaches, any_of}
 use Rattle.lists.proofs.Or.{or_found, or_passed}
 use Rattle.lists.proofs.Replaced.{map_at}
@@ -23,34 +25,21 @@ use Rattle.graph.specs.Steps.{GraphRows}
 use Rattle.graph.proofs.Bridge.{graph_links}
 use Rattle.model.specs.Paths.{is_set}
 use Rattle.model.specs.Words.{option_of, labels_of}
-use Rattle.model.proofs.WordFacts.{word_set, word_unset}
 use Rattle.verify.specs.Certificate.{beyond, any_beyond, is_not, not_before, parent_wrong, label_wrong, vertex_wrong, result_wrong}
-use Rattle.verify.specs.Steps.{Checkable}
+use Rattle.verify.specs.Steps.{Checkable, label_in}
 
--- Words.
+-- Labels.
 
--- a word that isn't the one for unset stands for itself
-word_given : (word : ℕ) → (word ≡ unset → ⊥) → option_of word ≡ some word
-unfolding option_of
-word_given word h = rw (ne_eqb word unset h)
+-- a label is set in the code where it is in the definitions
+set_label : (label : code.Option ℕ) → is_set (label_in label) ≡ is_some label
+set_label None = refl
+set_label (Some x) = refl
 
--- a word stands for a label that is set if it isn't the one for unset
-set_word : (word : ℕ) → is_set (option_of word) ≡ not (eqb word unset)
-unfolding option_of
-set_word word = go (eqb word unset)
-  where
-    go : (b : Bool) → is_set (cond b none (some word)) ≡ not b
-    go true = refl
-    go false = refl
-
--- a word stands for something but a vertex if it isn't its number
-not_word : (vertex word : ℕ) → vertex < unset → is_not vertex (option_of word) ≡ not (eqb word vertex)
-unfolding option_of is_not
-not_word vertex word h = go (eqb word unset) refl
-  where
-    go : (b : Bool) → eqb word unset ≡ b → is_not vertex (cond b none (some word)) ≡ not (eqb word vertex)
-    go true e = let same = eqb-true word unset e in sym (ap not (ne_eqb word vertex (λ (q : word ≡ vertex). omega arith)))
-    go false e = refl
+-- and other than k
+other_label : (k : ℕ) (label : code.Option ℕ) → is_not k (label_in label) ≡ not (option_eq eqb label (Some k))
+unfolding is_not
+other_label k None = refl
+other_label k (Some x) = refl
 
 -- Whether a vertex stands in a row: some target is it.
 
@@ -76,36 +65,23 @@ module _ (distances : List ℕ) (most : ℕ) where
     pub target_there : t < length distances
     target_there = rw leads (reaches_at (length distances) row i below here)
 
-    module _ {distance : ℕ} (label : distance ≡ get_or distances t 0) (inv : any_far row ≡ any_far (drop i row)) where
+    module _ {label : Option ℕ} (shown : label ≡ option_of (get_or distances t 0)) (inv : any_far row ≡ any_far (drop i row)) where
       -- it is this target, or one further on
-      far_more : any_far row ≡ beyond most (option_of distance) || any_far (drop (i + 1) row)
+      far_more : any_far row ≡ beyond most label || any_far (drop (i + 1) row)
       unfolding any_beyond any_of
       far_more =
-          let word : get_or (map option_of distances) t none ≡ option_of distance =
-          map_at option_of distances t 0 none target_there ∙ ap option_of (sym label) in
+          let read : get_or (map option_of distances) t none ≡ label = map_at option_of distances t 0 none target_there ∙ sym shown in
           let test : ℕ → Bool = λ (u : ℕ). beyond most (get_or (map option_of distances) u none) || any_far (drop (i + 1) row) in
           let one : any_far (drop i row) ≡ test (get_or row i 0) = rw (drop-cons row i 0, add-one) in
-          inv ∙ one ∙ ap test (sym leads) ∙ ap (λ (o : Option ℕ). beyond most o || any_far (drop (i + 1) row)) word
+          inv ∙ one ∙ ap test (sym leads) ∙ ap (λ (o : Option ℕ). beyond most o || any_far (drop (i + 1) row)) read
 
-      -- this one is unset
-      pub far_unset : distance ≡ unset → true ≡ any_far row
-      unfolding beyond
-      far_unset e =
-          or_found (beyond most (option_of distance)) (any_far (drop (i + 1) row)) far_more (ap (beyond most) (ap option_of e ∙ word_unset))
+      -- it is this one
+      pub far_here : beyond most label ≡ true → true ≡ any_far row
+      far_here e = or_found (beyond most label) (any_far (drop (i + 1) row)) far_more e
 
-      -- this one is farther
-      pub far_here : (distance ≡ unset → ⊥) → most < distance → true ≡ any_far row
-      unfolding beyond
-      far_here given h =
-          or_found (beyond most (option_of distance)) (any_far (drop (i + 1) row)) far_more
-          (ap (beyond most) (word_given distance given) ∙ lt-ltb most distance h)
-
-      -- this one is neither
-      pub far_passed : (distance ≡ unset → ⊥) → distance ≤ most → any_far row ≡ any_far (drop (i + 1) row)
-      unfolding beyond
-      far_passed given h =
-          or_passed (beyond most (option_of distance)) (any_far (drop (i + 1) row)) far_more
-          (ap (beyond most) (word_given distance given) ∙ le-ltb most distance h)
+      -- it isn't this one
+      pub far_passed : beyond most label ≡ false → any_far row ≡ any_far (drop (i + 1) row)
+      far_passed e = or_passed (beyond most label) (any_far (drop (i + 1) row)) far_more e
 
 -- The view of a vertex.
 
@@ -126,9 +102,9 @@ module _ {offsets targets : List ℕ} {n : ℕ} (ground : GraphRows offsets targ
 -- The parent of a vertex.
 
 module _ (offsets targets distances : List ℕ) (v distance parent : ℕ) where
-  -- whether it is none, by the words
+  -- whether it is wrong
   abbrev no_parent : Bool
-  no_parent = parent_wrong (rows_of offsets targets) (map option_of distances) v distance (option_of parent)
+  no_parent = parent_wrong (rows_of offsets targets) (map option_of distances) v distance (some parent)
 
   -- whether it has no edge to the vertex
   abbrev no_edge : Bool
@@ -136,46 +112,27 @@ module _ (offsets targets distances : List ℕ) (v distance parent : ℕ) where
 
   -- a number past the vertices
   pub parent_outside : length distances ≤ parent → true ≡ no_parent
-  unfolding parent_wrong not_before option_of
-  parent_outside h = go (eqb parent unset)
-    where
-      past : get_or (map option_of distances) parent none ≡ none
-      past = get_or-eq_default (map option_of distances) none (omega (arith, length-map distances option_of))
+  unfolding parent_wrong not_before
+  parent_outside h =
+      let past : get_or (map option_of distances) parent none ≡ none =
+      get_or-eq_default (map option_of distances) none (omega (arith, length-map distances option_of)) in
+      sym (ap (λ (o : Option ℕ). not_before distance o || no_edge) past)
 
-      go : (b : Bool) → true ≡ parent_wrong (rows_of offsets targets) (map option_of distances) v distance (cond b none (some parent))
-      go true = refl
-      go false = sym (ap (λ (o : Option ℕ). not_before distance o || no_edge) past)
-
-  module _ (ground : GraphRows offsets targets (length distances)) (inside : parent < length distances) {before : ℕ}
-      (label : before ≡ get_or distances parent 0) where
+  module _ (inside : parent < length distances) {label : Option ℕ} (shown : label ≡ option_of (get_or distances parent 0)) where
     -- a vertex: by its distance, or by its edges
-    parent_by : no_parent ≡ not_before distance (option_of before) || no_edge
+    parent_by : no_parent ≡ not_before distance label || no_edge
     unfolding parent_wrong
-    parent_by =
-        ap (parent_wrong (rows_of offsets targets) (map option_of distances) v distance) (word_set parent (omega (arith, ground.few-vertices)))
-        ∙ ap (λ (o : Option ℕ). not_before distance o || no_edge) (map_at option_of distances parent 0 none inside ∙ ap option_of (sym label))
+    parent_by = ap (λ (o : Option ℕ). not_before distance o || no_edge) (map_at option_of distances parent 0 none inside ∙ sym shown)
 
-    -- its distance is unset
-    pub parent_unset : before ≡ unset → true ≡ no_parent
-    unfolding not_before
-    parent_unset e = or_found (not_before distance (option_of before)) no_edge parent_by (ap (not_before distance) (ap option_of e ∙ word_unset))
+    -- its distance is unset or isn't one less
+    pub parent_apart : not_before distance label ≡ true → true ≡ no_parent
+    parent_apart e = or_found (not_before distance label) no_edge parent_by e
 
-    -- its distance isn't one less
-    pub parent_apart : (before ≡ unset → ⊥) → (before + 1 ≡ distance → ⊥) → true ≡ no_parent
-    unfolding not_before
-    parent_apart given h =
-        or_found (not_before distance (option_of before)) no_edge parent_by
-        (ap (not_before distance) (word_given before given) ∙ ap not (ne_eqb (suc before) distance (λ e. h (add-one before ∙ e))))
-
-    -- its distance is one less
-    pub parent_edge : (before ≡ unset → ⊥) → before + 1 ≡ distance → {found : Bool} {row : List ℕ} → found ≡ elem v row
-        → row ≡ links_of offsets targets parent → not found ≡ no_parent
-    unfolding not_before
-    parent_edge given h edge view =
-        ap not (edge ∙ ap (elem v) (view_row ground parent inside view))
-        ∙ sym
-        (or_passed (not_before distance (option_of before)) no_edge parent_by
-        (ap (not_before distance) (word_given before given) ∙ ap not (eq-eqb (suc before) distance (sym (add-one before) ∙ h))))
+    -- its distance is one less: by its edges
+    pub parent_edge : GraphRows offsets targets (length distances) → not_before distance label ≡ false → {found : Bool} {row : List ℕ}
+        → found ≡ elem v row → row ≡ links_of offsets targets parent → not found ≡ no_parent
+    parent_edge ground e edge view =
+        ap not (edge ∙ ap (elem v) (view_row ground parent inside view)) ∙ sym (or_passed (not_before distance label) no_edge parent_by e)
 
 -- The label of a vertex, and those of all vertices, one after another.
 
@@ -188,73 +145,73 @@ module _ (source : ℕ) (offsets targets distances parents : List ℕ) where
   abbrev wrong_as : ℕ → Option ℕ → Option ℕ → Bool
   wrong_as v distance parent = label_wrong (rows_of offsets targets) source (labels_of distances parents) v distance parent
 
-  module _ (ok : Checkable source offsets targets distances parents) (v : ℕ) (here : v < length distances) {distance parent : ℕ}
-      (label : distance ≡ get_or distances v 0) (name : parent ≡ get_or parents v 0) where
-    -- by the words that are read
-    wrong_by : wrong_at v ≡ wrong_as v (option_of distance) (option_of parent)
+  module _ (ok : Checkable source offsets targets distances parents) (v : ℕ) (here : v < length distances) (label parent : code.Option ℕ)
+      (shown : label_in label ≡ option_of (get_or distances v 0)) (named : label_in parent ≡ option_of (get_or parents v 0)) where
+    -- by the labels that are read
+    wrong_by : {distance : code.Option ℕ} → label ≡ distance → wrong_at v ≡ wrong_as v (label_in distance) (label_in parent)
     unfolding vertex_wrong labels_of
-    wrong_by =
+    wrong_by e =
         ap₂ (wrong_as v)
-        (map_at option_of distances v 0 none here ∙ ap option_of (sym label))
-        (map_at option_of parents v 0 none (omega (arith, ok.parents_all)) ∙ ap option_of (sym name))
+        (map_at option_of distances v 0 none here ∙ sym shown ∙ ap label_in e)
+        (map_at option_of parents v 0 none (omega (arith, ok.parents_all)) ∙ sym named)
 
-    -- a vertex that isn't reached: it is the source, or it has a parent
-    unreached_by : distance ≡ unset → wrong_at v ≡ eqb v source || not (eqb parent unset)
-    unfolding label_wrong
-    unreached_by e =
-        wrong_by
-        ∙ ap (λ (o : Option ℕ). wrong_as v o (option_of parent)) (ap option_of e ∙ word_unset)
-        ∙ ap (λ (b : Bool). eqb v source || b) (set_word parent)
+    module _ (unreached : label ≡ None) where
+      -- a vertex that isn't reached: it is the source, or it has a parent
+      unreached_by : wrong_at v ≡ eqb v source || is_some parent
+      unfolding label_wrong
+      unreached_by = wrong_by unreached ∙ ap (λ (b : Bool). eqb v source || b) (set_label parent)
 
-    -- it is the source
-    pub unreached_source : distance ≡ unset → v ≡ source → eqb v source ≡ wrong_at v
-    unreached_source e q = let same = eq-eqb v source q in same ∙ or_found (eqb v source) (not (eqb parent unset)) (unreached_by e) same
+      -- it is the source
+      pub unreached_source : v ≡ source → eqb v source ≡ wrong_at v
+      unreached_source q = let same = eq-eqb v source q in same ∙ or_found (eqb v source) (is_some parent) unreached_by same
 
-    -- it isn't
-    pub unreached_other : distance ≡ unset → (v ≡ source → ⊥) → not (eqb parent unset) ≡ wrong_at v
-    unreached_other e q = sym (or_passed (eqb v source) (not (eqb parent unset)) (unreached_by e) (ne_eqb v source q))
+      -- it isn't
+      pub unreached_other : (v ≡ source → ⊥) → is_some parent ≡ wrong_at v
+      unreached_other q = sym (or_passed (eqb v source) (is_some parent) unreached_by (ne_eqb v source q))
 
     -- what a vertex that is reached is judged by if no edge leads too far, given whether it is the source
-    abbrev name_wrong : Bool → Bool
-    name_wrong own = cond own (not (eqb distance 0) || is_not source (option_of parent)) (no_parent offsets targets distances v distance parent)
+    abbrev name_wrong : ℕ → Bool → Bool
+    name_wrong distance own =
+        cond own (not (eqb distance 0) || is_not source (label_in parent))
+        (parent_wrong (rows_of offsets targets) (map option_of distances) v distance (label_in parent))
 
-    module _ (given : distance ≡ unset → ⊥) {far : Bool} {row : List ℕ} (seen : far ≡ any_far distances (distance + 1) row)
-        (view : row ≡ links_of offsets targets v) where
+    module _ {distance : ℕ} (reached : label ≡ Some distance) {far : Bool} {row : List ℕ}
+        (seen : far ≡ any_far distances (distance + 1) row) (view : row ≡ links_of offsets targets v) where
       -- a vertex that is reached: an edge leads too far, or the rest is wrong
-      reached_by : wrong_at v ≡ far || name_wrong (eqb v source)
+      reached_by : wrong_at v ≡ far || name_wrong distance (eqb v source)
       unfolding label_wrong labels_of
       reached_by =
           let same : any_far distances (suc distance) (edges (rows_of offsets targets) v) ≡ far =
           ap₂ (any_beyond (map option_of distances)) (sym (add-one distance)) (sym (view_row ok.rows v here view)) ∙ sym seen in
-          wrong_by
-          ∙ ap (λ (o : Option ℕ). wrong_as v o (option_of parent)) (word_given distance given)
-          ∙ ap (λ (b : Bool). b || name_wrong (eqb v source)) same
+          wrong_by reached ∙ ap (λ (b : Bool). b || name_wrong distance (eqb v source)) same
 
       -- an edge does
       pub reached_far : far ≡ true → true ≡ wrong_at v
-      reached_far e = or_found far (name_wrong (eqb v source)) reached_by e
+      reached_far e = or_found far (name_wrong distance (eqb v source)) reached_by e
 
       module _ (near : far ≡ false) where
         -- no edge does, and it is the source: its distance isn't 0, or its parent is another
-        source_by : v ≡ source → wrong_at v ≡ not (eqb distance 0) || not (eqb parent source)
+        source_by : v ≡ source → wrong_at v ≡ not (eqb distance 0) || not (option_eq eqb parent (Some source))
         source_by q =
-            or_passed far (name_wrong (eqb v source)) reached_by near
-            ∙ ap name_wrong (eq-eqb v source q)
-            ∙ ap (λ (b : Bool). not (eqb distance 0) || b) (not_word source parent (omega (arith, ok.source_below, ok.rows.few-vertices)))
+            or_passed far (name_wrong distance (eqb v source)) reached_by near
+            ∙ ap (name_wrong distance) (eq-eqb v source q)
+            ∙ ap (λ (b : Bool). not (eqb distance 0) || b) (other_label source parent)
 
         -- its distance isn't 0
         pub source_far : v ≡ source → (distance ≡ 0 → ⊥) → not (eqb distance 0) ≡ wrong_at v
         source_far q h =
             let apart = ap not (ne_eqb distance 0 h) in
-            apart ∙ or_found (not (eqb distance 0)) (not (eqb parent source)) (source_by q) apart
+            apart ∙ or_found (not (eqb distance 0)) (not (option_eq eqb parent (Some source))) (source_by q) apart
 
         -- its distance is 0
-        pub source_near : v ≡ source → distance ≡ 0 → not (eqb parent source) ≡ wrong_at v
-        source_near q h = sym (or_passed (not (eqb distance 0)) (not (eqb parent source)) (source_by q) (ap not (eq-eqb distance 0 h)))
+        pub source_near : v ≡ source → distance ≡ 0 → not (option_eq eqb parent (Some source)) ≡ wrong_at v
+        source_near q h =
+            sym (or_passed (not (eqb distance 0)) (not (option_eq eqb parent (Some source))) (source_by q) (ap not (eq-eqb distance 0 h)))
 
-        -- no edge does, and it isn't the source: its parent is none
-        pub other_by : (v ≡ source → ⊥) → {wrong : Bool} → wrong ≡ no_parent offsets targets distances v distance parent → wrong ≡ wrong_at v
-        other_by q e = e ∙ sym (or_passed far (name_wrong (eqb v source)) reached_by near ∙ ap name_wrong (ne_eqb v source q))
+        -- no edge does, and it isn't the source: its parent is wrong
+        pub other_by : (v ≡ source → ⊥) → name_wrong distance false ≡ wrong_at v
+        other_by q =
+            sym (or_passed far (name_wrong distance (eqb v source)) reached_by near ∙ ap (name_wrong distance) (ne_eqb v source q))
 
   -- whether the label of some vertex from v on is wrong
   unfoldable pub wrong_from : ℕ → Bool

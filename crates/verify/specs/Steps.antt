@@ -1,6 +1,8 @@
 -- What the steps of the checker take for granted, and what the first of them answers.
 -- Only the contracts of inner steps cite these.
-use Rattle.std.specs.Prelude.{◌≡◌, List, ℕ, ◌+◌, ◌≤◌, ◌<◌, length, take}
+use Rattle.std.specs.Prelude.{◌≡◌, List, ℕ, ◌+◌, ◌≤◌, ◌<◌, length, take, Some, None}
+use Rattle.std.specs.Prelude as code
+use Rattle.std.proofs.Math.Option.{Option, none, some}
 use Rattle.numbers.specs.Refusals.{first}
 use Rattle.graph.specs.File.{vertex_count, edge_count}
 use Rattle.graph.specs.Read.{ReadAnswer, answer_with}
@@ -17,6 +19,11 @@ lengths_in x = record {
   targets = x.targets;
   marks = x.marks;
 }
+
+-- the code's label as the definitions'
+abbrev pub label_in : code.Option ℕ → Option ℕ
+label_in None = none
+label_in (Some x) = some x
 
 -- the number of the tests before the chains, with n and m beside 0
 unfoldable pub early_answer : List ℕ → ℕ → check.CheckLengths → ReadAnswer

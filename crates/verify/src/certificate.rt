@@ -1,15 +1,27 @@
 // The local certificate: each vertex is judged by its own label, its parent's and its targets'. All
 // lists are read alone; a parent is used as an index only below n, and 1 is added only to a distance
 // that is set.
-ghost use Rattle.std.specs.Prelude.{◌≡◌, false, map, ◌<◌, length};
+ghost use Rattle.std.specs.Prelude.{◌≡◌, false, map, ◌<◌, length, get_or, IfSome};
 ghost use Rattle.lists.specs.Lists.{elem, reaches};
 ghost use Rattle.graph.specs.Graph.{rows_of};
 ghost use Rattle.model.specs.Words.{option_of, labels_of};
 ghost use Rattle.verify.specs.Certificate.{any_beyond, parent_wrong, vertex_wrong, result_wrong};
-ghost use Rattle.verify.specs.Steps.{Checkable};
+ghost use Rattle.verify.specs.Steps.{Checkable, label_in};
 
-use graph::words::element;
-use numbers::WIDE_UNSET;
+use numbers::UNSET;
+
+// The label at this place of a list of distances or parents: `None` for unset.
+#[tactic(auto, unfolding(model::specs::Words::option_of))]
+fn label(list: &[u16], place: usize) -> Option<usize>
+    requires { place < length list.now }
+    ensures value { label_in result ≡ option_of (get_or list.now place 0) }
+    ensures upper_bound { IfSome result (λ x. x < 65536) }
+{
+    match list[place] {
+        UNSET => None,
+        word => Some(usize::from(word)),
+    }
+}
 
 // Whether some target of the row is unset or farther than `most`.
 fn any_beyond(row: &[u16], distances: &[u16], most: usize) -> bool
@@ -17,10 +29,9 @@ fn any_beyond(row: &[u16], distances: &[u16], most: usize) -> bool
     ensures { result ≡ any_beyond (map option_of distances.now) most row.now }
 {
     for target in row {
-        let reached = element(distances, usize::from(*target));
-        if reached == WIDE_UNSET {
+        let Some(reached) = label(distances, usize::from(*target)) else {
             return true;
-        }
+        };
         if most < reached {
             return true;
         }
@@ -49,18 +60,20 @@ pub struct Claim<'a> {
 impl<'a> Claim<'a> {
     // Whether the parent is wrong for the vertex at this distance, which is set: a right parent is a
     // vertex with a distance one less and an edge to this one.
-    fn parent_wrong(&self, vertex: usize, distance: usize, parent: usize) -> bool
+    fn parent_wrong(&self, vertex: usize, distance: usize, parent: Option<usize>) -> bool
         ensures { result ≡ parent_wrong (rows_of self.now.offsets.now self.now.targets.now)
-            (map option_of self.now.distances.now) vertex distance (option_of parent) }
+            (map option_of self.now.distances.now) vertex distance (label_in parent) }
     {
+        let Some(parent) = parent else {
+            return true;
+        };
         if self.distances.len() <= parent {
             return true;
         }
-        let parent_distance = element(self.distances, parent);
-        if parent_distance == WIDE_UNSET {
+        let Some(before) = label(self.distances, parent) else {
             return true;
-        }
-        if parent_distance + 1 != distance {
+        };
+        if before + 1 != distance {
             return true;
         }
         !has_edge(view::links(self.offsets, self.targets, parent), vertex)
@@ -72,18 +85,16 @@ impl<'a> Claim<'a> {
         ensures { result ≡ vertex_wrong (rows_of self.now.offsets.now self.now.targets.now) self.now.source
             (labels_of self.now.distances.now self.now.parents.now) vertex }
     {
-        let distance = element(self.distances, vertex);
-        let parent = element(self.parents, vertex);
-        let unset = distance == WIDE_UNSET;
-        if unset {
-            return vertex == self.source || parent != WIDE_UNSET;
-        }
+        let parent = label(self.parents, vertex);
+        let Some(distance) = label(self.distances, vertex) else {
+            return vertex == self.source || parent.is_some();
+        };
         let row = view::links(self.offsets, self.targets, vertex);
         if any_beyond(row, self.distances, distance + 1) {
             return true;
         }
         if vertex == self.source {
-            return distance != 0 || parent != self.source;
+            return distance != 0 || parent != Some(self.source);
         }
         self.parent_wrong(vertex, distance, parent)
     }

@@ -7,7 +7,8 @@ mod certificate;
 
 pub use call::check;
 
-// The lengths of the lent lists.
+// The lengths of the lent lists, without the lists: so the tests come before any list is lent on. The
+// search's are other lists.
 #[derive(Clone, Copy)]
 pub struct Lengths {
     pub distances: usize,

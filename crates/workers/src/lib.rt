@@ -1,7 +1,7 @@
 // The workers of a search: what one of them does at an event, when two may exchange, and what all do at
 // a close. All workers' input bags, output bags and phases stand in three arrays; a move takes the bag
 // and the phase that it is about, by value, and gives them back. These are inner steps: they may
-// assume what their callers prove.
+// assume what their callers prove. An unset label is a word of C's lists, so it is tested as one.
 #![tactic(auto)]
 
 use bag::Bag;

@@ -1,10 +1,10 @@
--- `schedule::look_up` meets its contract: the entry of a byte says the byte's event, and each arm has the event of its kind.
+-- `schedule::EventTable::look_up` meets its contract: the entry of a byte says the byte's event, and each arm has the event of its kind.
 use mathlib.Core.Path.{◌≡◌, sym, ◌∙◌}
 use native.Mathlib.Omega.{arith}
 use Rattle.schedule.specs.Events.{event_of}
 use Rattle.schedule.proofs.TableFacts.{event_in, entry_event, past_kinds}
-use Rattle.schedule.proofs.look_up.Goals.{After-entry-v}
-use Rattle.schedule.proofs.look_up.Goals as goal
+use Rattle.schedule.proofs.EventTable.look_up.Goals.{After-entry-v}
+use Rattle.schedule.proofs.EventTable.look_up.Goals as goal
 
 -- the entry's three parts say the byte's event
 says : (c : After-entry-v) → event_in c.entry-kind.result c.entry-w.result c.entry-v.result ≡ event_of c.args.byte
