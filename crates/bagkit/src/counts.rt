@@ -31,10 +31,11 @@ pub fn add_numbers(row: &mut [u16], nodes: &[u16], values: &[u16]) {
     }
 }
 
-// Whether a row counts what two others count together.
+// Whether a row counts what two others count together; the three are equally long.
 pub fn is_sum(row: &[u16], first: &[u16], second: &[u16]) -> bool {
+    let even = (row.len() == first.len()) & (row.len() == second.len());
     let mut parts = first.iter().zip(second).zip(row);
-    parts.all(|((a, b), sum)| *sum == a.wrapping_add(*b))
+    even & parts.all(|((a, b), sum)| *sum == a.wrapping_add(*b))
 }
 
 // Whether all hold 1.

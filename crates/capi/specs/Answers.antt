@@ -1,6 +1,6 @@
 -- The C interface passes numbers and lists alone: `hopmap_read` and `hopmap_search` leave their answers in a
 -- lent list of 32-bit numbers. Here is how an answer is read off such a list, so that the contracts say of the
--- list what those of `graph::read` and `search::search` say of the record; and how large the numbers of an
+-- list what those of `graph::read` and `search::search` say of their answer; and how large the numbers of an
 -- answer are, so that each fits its place.
 use Rattle.std.specs.Prelude.{List, ℕ, ◌≤◌, ◌<◌, get_or}
 use Rattle.numbers.specs.Numbers.{max_vertices, max_edges, max_events, short_list, unfinished}

@@ -37,7 +37,11 @@ fn tell_read(read: &Result<Size, Refused>, answer: &mut [u32; 3])
     ensures { read_answer_in answer.new ≡ read_answer_of read.now }
 {
     *answer = match read {
-        Ok(size) => [0, narrow(size.vertices), narrow(size.edges)],
+        Ok(size) => [
+            narrow(numbers::SUCCESS),
+            narrow(size.vertices),
+            narrow(size.edges),
+        ],
         Err(refused) => [narrow(refused.number()), 0, 0],
     };
 }

@@ -38,7 +38,7 @@ abbrev pub answer_in : code.Answer → Answer
 answer_in answer = answer_of (number_of answer.ending) answer.used answer.effective answer.layer
 
 -- an answer that tells the model's run: "number, events used, effective events, d"
-pub record Told (r : Run) (answer : Answer) : Type 0 where
+pub record Tells (r : Run) (answer : Answer) : Type 0 where
   pub number : answer.number ≡ cond r.state.finished success unfinished
   pub used : answer.used ≡ r.used
   pub effective : answer.effective ≡ r.effective
@@ -46,7 +46,7 @@ pub record Told (r : Run) (answer : Answer) : Type 0 where
 
 -- what `run` promises: answer and labels of the model's run, and a recount of its distances
 pub record Ran (r : Run) (distances' parents' histogram' : List ℕ) (answer : Answer) : Type 0 where
-  pub told : Told r answer
+  pub told : Tells r answer
   pub distances : distances' ≡ map word_of r.state.labels.distances
   pub parents : parents' ≡ map word_of r.state.labels.parents
   pub histogram : histogram' ≡ recount r.state.labels.distances

@@ -8,11 +8,11 @@ ghost use Rattle.engine.specs.Runs.{number_of};
 
 pub mod run;
 
-// How a run ends: with the finishing event, 0, or with the schedule spent before it, 21.
+// How a run ends: with the finishing event, or with the schedule spent before it.
 #[derive(Clone, Copy, Debug, PartialEq, Eq)]
 pub enum Ending {
-    Finished = 0,
-    Spent = 21,
+    Finished,
+    Spent,
 }
 
 impl Ending {
@@ -20,7 +20,10 @@ impl Ending {
     pub fn number(self) -> usize
         ensures { result ≡ number_of self }
     {
-        self as usize
+        match self {
+            Ending::Finished => numbers::SUCCESS,
+            Ending::Spent => numbers::UNFINISHED,
+        }
     }
 }
 

@@ -14,7 +14,7 @@ ghost use Rattle.graph.specs.Steps.{file_answer, Sized, Chained, Ranked, Unchain
 
 use crate::Survey;
 use crate::words::{element, largest_word, word, word16};
-use numbers::Refused;
+use numbers::{Refused, told};
 
 // The bytes of n and m, which every file begins with.
 const HEADER_BYTES: usize = 4;
@@ -91,7 +91,8 @@ fn next_of(records: &[u8], index: usize) -> usize
 
 impl Survey<'_> {
     // 5, 6; only then rows are written. Marks are working room: the first m are cleared before and
-    // after, whatever they hold at entry.
+    // after, whatever they hold at entry. The walk's number is tested and not its refusal handed on by `?`:
+    // the marks are cleared in any case, and two edits change the test.
     pub fn unchain(
         &self,
         offsets: &mut [u16],
@@ -107,7 +108,8 @@ impl Survey<'_> {
     {
         lists::clear(marks, self.edges);
         let ranked = self.rank(marks);
-        let whole = ranked == Ok(());
+        let number = told(&ranked);
+        let whole = number == numbers::SUCCESS;
         if whole {
             self.write_targets(marks, targets);
             self.write_offsets(marks, offsets);
@@ -186,9 +188,11 @@ impl Survey<'_> {
         requires targets_long { self.now.edges ≤ length targets.old }
         ensures { targets.new ≡ overlay (targets_of (graph_of self.now.file.now)) targets.old }
     {
+        let file = self.file;
+        let start = self.vertices + 2;
         for i in 0..self.edges {
             let place = element(marks, i) - 1;
-            targets[place] = word16(self.file, self.vertices + 2 + 2 * i);
+            targets[place] = word16(file, start + 2 * i);
         }
     }
 
@@ -201,10 +205,11 @@ impl Survey<'_> {
         requires offsets_long { self.now.vertices + 1 ≤ length offsets.old }
         ensures { offsets.new ≡ overlay (offsets_of (graph_of self.now.file.now)) offsets.old }
     {
+        let file = self.file;
         let mut offset = self.edges;
         offsets[self.vertices] = offset as u16;
         for vertex in (0..self.vertices).rev() {
-            let head = word(self.file, 2 + vertex);
+            let head = word(file, 2 + vertex);
             if head != 0 {
                 offset = element(marks, head - 1) - 1;
             }

@@ -6,17 +6,7 @@ use Prim.Native.Nat.{ℕ, ◌+◌, ◌-◌, ◌≤◌}
 use native.Mathlib.Omega.{arith}
 use lib.ListN.{length, take, drop}
 use borrow.Author.Tests.{ne_eqb, eq-eqb}
-use Rattle.std.specs.Prelude.{Result, Ok, Err, is_ok}
 use Rattle.numbers.specs.Numbers.{success, unfinished}
-use Rattle.numbers.specs.Told.{number_of}
-use Rattle.numbers.specs.declared.refused.Refused.{Refused}
-use Rattle.numbers.specs.declared.refused.Refused.TheVariants.{BadLength, BadSize, BadTarget, BadIndex, Repeated, Unreached}
-use Rattle.numbers.specs.declared.refused.Refused.TheVariants.{BadSource, BadWorkers, BadSchedule, BadResult, BadRows, BadSleepers, ShortList}
-use Rattle.engine.specs.declared.Ending.{Ending}
-use Rattle.engine.specs.declared.Ending.TheVariants.{Finished, Spent}
-use Rattle.engine.specs.declared.Answer as code
-use Rattle.engine.specs.Runs as engine
-use Rattle.search.specs.Answers.{answer_of}
 use Rattle.numbers.specs.Refusals.{first}
 use Rattle.lists.specs.Lists.{elem}
 use Rattle.graph.specs.File.{word, vertex_count}
@@ -47,35 +37,6 @@ plays_unfinished {number} h e = rw (ne_eqb number success h, eq-eqb number unfin
 pub plays_neither : {number : ℕ} → (number ≡ success → ⊥) → (number ≡ unfinished → ⊥) → plays number ≡ false
 unfolding plays elem
 plays_neither {number} h e = rw (ne_eqb number success h, ne_eqb number unfinished e)
-
--- So the schedule was played where nothing was refused.
-
--- by 0 and by 21
-ran_plays : (ending : Ending) → plays (engine.number_of ending) ≡ true
-unfolding plays elem
-ran_plays Finished = refl
-ran_plays Spent = refl
-
--- and by no refusal's number
-refused_plays : (refused : Refused) → plays (number_of refused) ≡ false
-unfolding plays elem
-refused_plays BadLength = refl
-refused_plays BadSize = refl
-refused_plays BadTarget = refl
-refused_plays BadIndex = refl
-refused_plays Repeated = refl
-refused_plays Unreached = refl
-refused_plays BadSource = refl
-refused_plays BadWorkers = refl
-refused_plays BadSchedule = refl
-refused_plays BadResult = refl
-refused_plays BadRows = refl
-refused_plays BadSleepers = refl
-refused_plays ShortList = refl
-
-pub answer_plays : (found : Result code.Answer Refused) → plays (answer_of found).number ≡ is_ok found
-answer_plays (Ok run) = ran_plays run.ending
-answer_plays (Err refused) = refused_plays refused
 
 -- The call of the search.
 

@@ -49,8 +49,10 @@ fn search_and_print(input: &[u8], output: &mut [u8]) -> usize
         &mut values,
     );
     let next = put_first_line(output, &found);
-    let played = found.is_ok();
-    if played {
+    // Tested by its number, and not by `is_ok`, so that the edit `respond_lines_with_refusal` changes a test.
+    let number = search::number(&found);
+    let finished = number == numbers::SUCCESS;
+    if finished || number == numbers::UNFINISHED {
         return put_vertex_lines(output, next, word(file, 0), &distances, &parents);
     }
     next

@@ -53,11 +53,17 @@ impl<const N: usize, const M: usize> Room<N, M> {
     }
 }
 
+// With room for every n and m of document 01, and a few places more. A function pays at entry for all its
+// lists, so these stand in one of their own.
+fn answers_large(graph: Graph, query: Query, labels: Labels) -> bool {
+    Room::<4102, 32773>::new().answers(graph, query, labels)
+}
+
 // Whether the call answers its number and leaves the lists as it must. The lists are small where that
-// is enough; else they have room for every n and m of document 01, and a few places more.
+// is enough.
 pub fn answers(graph: Graph, query: Query, labels: Labels) -> bool {
     if query.vertices > 40 || query.edges > 120 {
-        Room::<4102, 32773>::new().answers(graph, query, labels)
+        answers_large(graph, query, labels)
     } else {
         Room::<52, 132>::new().answers(graph, query, labels)
     }

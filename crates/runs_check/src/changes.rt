@@ -13,6 +13,9 @@ const VERTEX_KINDS: u16 = 15;
 
 const EDGE_KINDS: u16 = 3;
 
+// The kind of a vertex that asks for edges: its parent is looked for there alone.
+const UNLINKED: u16 = 14;
+
 // The new labels of a vertex.
 #[derive(Clone, Copy)]
 pub struct Change {
@@ -58,7 +61,13 @@ impl Drawn<'_> {
         let vertex = case / VERTEX_KINDS;
         let old = at(self.wanted, vertex);
         let parent = at(parents, vertex);
+        let kind = case % VERTEX_KINDS;
         let drawn = below(next(seed.wrapping_add(u64::from(case))), vertices);
+        let unlinked = if kind == UNLINKED {
+            self.unlinked(vertex, drawn)
+        } else {
+            UNSET
+        };
         let kinds = [
             // Another distance: one more, one less, unset, 65,534, 0, a number below n.
             (old.wrapping_add(1), parent),
@@ -77,9 +86,9 @@ impl Drawn<'_> {
             // Both: unset; by a drawn parent; by a parent that is one nearer and has no edge.
             (UNSET, UNSET),
             (at(self.wanted, drawn).wrapping_add(1), drawn),
-            (old, self.unlinked(vertex, drawn)),
+            (old, unlinked),
         ];
-        let (distance, parent) = kinds[usize::from(case % VERTEX_KINDS)];
+        let (distance, parent) = kinds[usize::from(kind)];
         Change {
             vertex,
             distance,

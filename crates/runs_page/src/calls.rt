@@ -45,6 +45,16 @@ impl<const N: usize, const M: usize, const B: usize> Room<N, M, B> {
         }
     }
 
+    // Lists of zeros.
+    pub fn zeroed() -> Self {
+        Room {
+            offsets: [0; N],
+            targets: [0; M],
+            marks: [0; M],
+            bytes: [0; B],
+        }
+    }
+
     // Calls with the first places of the file and of each list, and so many of the page list.
     pub fn page(
         &mut self,
@@ -89,11 +99,17 @@ impl<const N: usize, const M: usize, const B: usize> Room<N, M, B> {
     }
 }
 
-// Calls with a page list of so many places, and compares: with small lists where they are enough, else
-// with room for every n and m of document 01, and a few places more. The query has the checker's number.
+// Calls with room for every n and m of document 01, and a few places more. A function pays at entry for all
+// its lists, so these stand in one of their own.
+fn call_large(graph: Graph, query: Query, places: usize, labels: Labels) -> Outcome {
+    Room::<4102, 32773, 87770>::new().call(graph, query, places, labels)
+}
+
+// Calls with a page list of so many places, and compares: with small lists where they are enough. The
+// query has the checker's number.
 pub fn call(graph: Graph, query: Query, places: usize, labels: Labels) -> Outcome {
     if query.vertices > 160 || query.edges > 480 {
-        Room::<4102, 32773, 87770>::new().call(graph, query, places, labels)
+        call_large(graph, query, places, labels)
     } else {
         Room::<172, 492, 3460>::new().call(graph, query, places, labels)
     }

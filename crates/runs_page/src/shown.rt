@@ -34,7 +34,7 @@ fn show(
     distances: &[u16],
     parents: &[u16],
 ) -> io::Result<()> {
-    let mut room = Room::<61, 60, 1302>::new();
+    let mut room = Room::<61, 60, 1302>::zeroed();
     let places = need(plan.vertices);
     let labels = Labels { distances, parents };
     println!(rt; "{name}")?;

@@ -10,27 +10,31 @@ fn number_of(byte: u8, workers: usize) -> usize {
     told(&schedule::check_schedule(&[byte], workers))
 }
 
-// Every byte for a P.
-fn every_byte(workers: usize) -> Tally {
-    let events = events_of(workers);
-    let cases = (0..=255u8).zip(&events);
-    all(cases, |(byte, is_event)| {
-        number_of(byte, workers) == number(workers, *is_event)
-    })
+// The numbers of all bytes for a P.
+fn numbers_of(workers: usize) -> [usize; 256] {
+    let mut numbers = [0; 256];
+    for byte in 0..=255u8 {
+        numbers[usize::from(byte)] = number_of(byte, workers);
+    }
+    numbers
 }
 
-// How many bytes are taken for a P.
-fn taken(workers: usize) -> usize {
-    let bytes = 0..=255u8;
-    bytes.filter(|byte| number_of(*byte, workers) == 0).count()
+// Every byte for a P, by its number.
+fn every_byte(workers: usize, numbers: &[usize; 256]) -> Tally {
+    let events = events_of(workers);
+    let cases = numbers.iter().zip(&events);
+    all(cases, |(answer, is_event)| {
+        *answer == number(workers, *is_event)
+    })
 }
 
 // Every byte for every P, and writes how many bytes were taken for each.
 fn every_p(rt: &impl Print) -> io::Result<Tally> {
     let mut tally = Tally::new();
     for workers in 0..=9 {
-        tally = tally.and(every_byte(workers));
-        let count = taken(workers);
+        let numbers = numbers_of(workers);
+        tally = tally.and(every_byte(workers, &numbers));
+        let count = numbers.iter().filter(|answer| **answer == 0).count();
         print!(rt; " {count}")?;
     }
     Ok(tally)

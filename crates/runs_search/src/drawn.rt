@@ -40,12 +40,18 @@ fn searched_in<const N: usize, const M: usize, const K: usize>(
     }
 }
 
+// Searches and judges in the large lists. A function pays at entry for all its lists, so these stand in one
+// of their own.
+fn searched_large(graph: Graph, schedule: &[u8], plan: Plan, lengths: Lengths) -> Report {
+    searched_in(&mut Large::new(), graph, schedule, plan, lengths)
+}
+
 // Searches and judges, with small lists where they are enough.
 pub fn searched(graph: Graph, schedule: &[u8], plan: Plan, lengths: Lengths) -> Report {
     if plan.vertices <= 40 && plan.edges <= 110 {
         searched_in(&mut Small::new(), graph, schedule, plan, lengths)
     } else {
-        searched_in(&mut Large::new(), graph, schedule, plan, lengths)
+        searched_large(graph, schedule, plan, lengths)
     }
 }
 

@@ -28,7 +28,7 @@ pub enum Event {
 
 // The table of event bytes. A value has the entries that the formula gives, so a look-up asks nothing
 // of its caller.
-#[derive(Drop)]
+#[derive(Clone, Copy)]
 pub struct EventTable {
     pub entries: [u8; 768],
     pub ghost whole: { entries ≡ byte_table },

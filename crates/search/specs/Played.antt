@@ -12,7 +12,7 @@ use Rattle.model.specs.Words.{word_of}
 use Rattle.model.specs.Histogram.{recount}
 use Rattle.model.specs.Demand.{Accepted}
 use Rattle.model.specs.Call.{Answer}
-use Rattle.engine.specs.Runs.{answer_of, Told}
+use Rattle.engine.specs.Runs.{answer_of, Tells}
 
 -- "A refusal other than 21 gives zeros beside its number."
 abbrev pub refused_with : ℕ → Answer
@@ -38,7 +38,7 @@ pub record PlayedOut (r : Run) (places : ℕ)
     (distances parents histogram left right values : List ℕ)
     (distances' parents' histogram' left' right' values' : List ℕ)
     (answer : Answer) : Type 0 where
-  pub told : Told r answer
+  pub told : Tells r answer
   pub labelled : distances' ≡ overlay (map word_of r.state.labels.distances) distances
   pub named : parents' ≡ overlay (map word_of r.state.labels.parents) parents
   pub counted : histogram' ≡ overlay (recount r.state.labels.distances) histogram

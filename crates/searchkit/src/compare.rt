@@ -4,7 +4,7 @@ use crate::counts::places;
 use crate::requests::{Request, Seen, is_played};
 use testkit::contents::is_filled;
 pub use testkit::reading::cleared;
-use testkit::words::{first, holds};
+use testkit::words::{agree, holds};
 
 // What the lists hold before a call, at every place.
 pub const OFFSETS_TAG: u16 = 7777;
@@ -36,11 +36,11 @@ pub fn are_rows(
     n: usize,
     m: usize,
 ) -> bool {
-    let starts = first(rows, n.wrapping_add(1));
-    let ends = first(row_targets, m);
-    let written = offsets.starts_with(starts) & targets.starts_with(ends) & holds(marks, m, 0);
-    let offsets_kept = is_filled(offsets, n.wrapping_add(1), OFFSETS_TAG);
-    let rest = offsets_kept & is_filled(targets, m, TARGETS_TAG);
+    let places = n.wrapping_add(1);
+    let written = agree(offsets, rows, places)
+        & agree(targets, row_targets, m)
+        & holds(marks, m, 0);
+    let rest = is_filled(offsets, places, OFFSETS_TAG) & is_filled(targets, m, TARGETS_TAG);
     written & rest & is_filled(marks, m, MARKS_TAG)
 }
 

@@ -1,4 +1,6 @@
 // Lists of bytes and of words alike: guarded places, known contents, comparisons.
+ghost use Rattle.std.specs.Prelude.{◌≡◌, take};
+
 // Numbers that fill a list with contents that are known at every place.
 pub trait Stamped: Copy + PartialEq {
     // The number that `stamp` puts at a place.
@@ -48,13 +50,25 @@ pub fn holds<T: Copy + PartialEq>(list: &[T], count: usize, value: T) -> bool {
         .is_some_and(|first| first.iter().all(|x| *x == value))
 }
 
+// Whether both lists have `count` places or more, and agree in the first `count`.
+pub fn agree<T: Copy + PartialEq>(a: &[T], b: &[T], count: usize) -> bool {
+    match (a.get(..count), b.get(..count)) {
+        (Some(starts), Some(others)) => starts == others,
+        _ => false,
+    }
+}
+
 // The first places of a list, as many as are asked for, or all where it has fewer.
-pub fn first<T>(list: &[T], asked: usize) -> &[T] {
+pub fn first<T>(list: &[T], asked: usize) -> &[T]
+    ensures { result.now ≡ take asked list.now }
+{
     &list[..asked.min(list.len())]
 }
 
 // The same, to write to.
-pub fn lent<T>(list: &mut [T], asked: usize) -> &mut [T] {
+pub fn lent<T>(list: &mut [T], asked: usize) -> &mut [T]
+    ensures { result.now ≡ take asked list.old }
+{
     let count = asked.min(list.len());
     &mut list[..count]
 }

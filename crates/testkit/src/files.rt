@@ -1,5 +1,5 @@
 // The 16-bit words of a file, low byte first, and lists of bytes.
-pub use crate::contents::{at, first, is_filled, is_stamped, lent, put, stamp, stamp_of};
+pub use crate::contents::{agree, at, first, is_filled, is_stamped, lent, put, stamp, stamp_of};
 
 // Copies bytes to a place of a list, as far as the list goes.
 pub fn copy(bytes: &[u8], list: &mut [u8], place: usize) {

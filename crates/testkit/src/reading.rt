@@ -2,7 +2,7 @@
 // have known contents at entry, and may be longer than what is lent of them.
 use crate::files;
 use crate::sample::file_length;
-use crate::words::{first, holds, is_stamped, lent, stamp};
+use crate::words::{agree, first, holds, is_stamped, lent, stamp};
 use graph::Size;
 use numbers::Refused;
 
@@ -79,9 +79,8 @@ fn are_rows(
     n: usize,
     m: usize,
 ) -> bool {
-    let starts = first(rows, n.wrapping_add(1));
-    let ends = first(row_targets, m);
-    offsets.starts_with(starts) & targets.starts_with(ends) & holds(marks, m, 0)
+    let places = n.wrapping_add(1);
+    agree(offsets, rows, places) & agree(targets, row_targets, m) & holds(marks, m, 0)
 }
 
 // Whether the places past the need are as they were.

@@ -2,7 +2,7 @@
 ghost use Rattle.std.specs.Prelude.{◌<◌};
 
 use crate::contents;
-pub use crate::contents::{at as at_place, first, holds, is_stamped, lent, stamp, stamp_of};
+pub use crate::contents::{agree, at as at_place, first, holds, is_stamped, lent, stamp, stamp_of};
 
 // What stands at the place, or 0 past the end.
 pub fn at(list: &[u16], place: u16) -> u16 {

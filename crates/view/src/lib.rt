@@ -2,7 +2,7 @@
 // are outside calls; they assume nothing.
 #![tactic(auto)]
 
-ghost use Rattle.std.specs.Prelude.{◌≡◌, ◌+◌, ◌≤◌, true, false, MatchOption, length, get_or};
+ghost use Rattle.std.specs.Prelude.{◌≡◌, ◌+◌, ◌≤◌, true, ltb, MatchOption, length, get_or};
 ghost use Rattle.numbers.specs.Told.{told};
 ghost use Rattle.graph.specs.Links.{out_of_view, links_number, links_start, word_place, links_of};
 
@@ -10,12 +10,13 @@ use graph::words::element;
 use numbers::Refused;
 use std::ops::Range;
 
-// Where the row of a vertex starts and ends in the targets: its two offsets. `None` where it has none,
-// they fall or the second passes the end of the targets.
+// Where the row of a vertex starts and ends in the targets: its two offsets, which may fall. `None` where it
+// has none or the second passes the end of the targets.
 fn bounds(offsets: &[u16], targets: &[u16], vertex: usize) -> Option<Range<usize>>
     ensures { MatchOption result (out_of_view offsets.now targets.now vertex ≡ true)
-        (λ row. (out_of_view offsets.now targets.now vertex ≡ false) × (row.start ≡ get_or offsets.now vertex 0)
-        × (row.end ≡ get_or offsets.now (vertex + 1) 0) × (row.start ≤ row.end) × (row.end ≤ length targets.now)) }
+        (λ row. (ltb row.end row.start ≡ out_of_view offsets.now targets.now vertex)
+        × (row.start ≡ get_or offsets.now vertex 0) × (row.end ≡ get_or offsets.now (vertex + 1) 0)
+        × (row.end ≤ length targets.now)) }
 {
     if offsets.len() < 2 {
         return None;
@@ -25,10 +26,8 @@ fn bounds(offsets: &[u16], targets: &[u16], vertex: usize) -> Option<Range<usize
     }
     let start = element(offsets, vertex);
     let end = element(offsets, vertex + 1);
-    if end < start {
-        return None;
-    }
-    if targets.len() < end {
+    let past = targets.len() < end;
+    if past {
         return None;
     }
     Some(start..end)
@@ -43,8 +42,8 @@ pub fn links<'a, 'b>(offsets: &'b [u16], targets: &'a [u16], vertex: usize) -> &
 {
     let front = 0;
     match bounds(offsets, targets, vertex) {
-        Some(row) => &targets[row],
-        None => &targets[front..front],
+        Some(row) if row.start <= row.end => &targets[row],
+        _ => &targets[front..front],
     }
 }
 
@@ -53,7 +52,7 @@ pub fn check_links(offsets: &[u16], targets: &[u16], vertex: usize) -> Result<()
     ensures { told result ≡ links_number offsets.now targets.now vertex }
 {
     match bounds(offsets, targets, vertex) {
-        Some(_) => Ok(()),
-        None => Err(Refused::BadRows),
+        Some(row) if row.start <= row.end => Ok(()),
+        _ => Err(Refused::BadRows),
     }
 }

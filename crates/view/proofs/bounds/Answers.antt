@@ -2,6 +2,7 @@
 use borrow.Author.Tests.{lt-ltb, le-ltb}
 use mathlib.Core.Bool.{or-true}
 use Rattle.graph.specs.Links.{out_of_view}
+use Rattle.view.proofs.InView.{test_falls}
 use Rattle.view.proofs.bounds.Goals as goal
 
 pub returns-then-offsets-lt2 : goal.returns-then-offsets-lt2
@@ -12,30 +13,16 @@ pub returns-then-offsets-vertex : goal.returns-then-offsets-vertex
 unfolding out_of_view
 returns-then-offsets-vertex c = simp (le-ltb _ _ c.if-offsets-lt2.false, le-ltb _ _ c.if-offsets-vertex.true)
 
-pub returns-then-end-start : goal.returns-then-end-start
+pub returns-then-past : goal.returns-then-past
 unfolding out_of_view
-returns-then-end-start c =
-    simp (← c.element-start.ensures.value, ← c.element-end.ensures.value, lt-ltb c.element-end.result c.element-start.result c.if-end-start.true, or-true)
-
-pub returns-then-targets-end : goal.returns-then-targets-end
-unfolding out_of_view
-returns-then-targets-end c = simp (← c.element-end.ensures.value, lt-ltb _ c.element-end.result c.if-targets-end.true, or-true)
+returns-then-past c = simp (← c.element-end.ensures.value, lt-ltb _ c.element-end.result c.if-past.true, or-true)
 
 pub returns : goal.returns
-unfolding out_of_view
 returns c =
     let start = c.element-start.ensures.value in
     let end = c.element-end.ensures.value in (
-      simp (
-        le-ltb _ _ c.if-offsets-lt2.false,
-        lt-ltb _ _ c.if-offsets-vertex.false,
-        ← start,
-        ← end,
-        le-ltb _ _ c.if-end-start.false,
-        le-ltb _ _ c.if-targets-end.false,
-      ),
+      test_falls _ _ _ _ _ c.if-offsets-lt2.false c.if-offsets-vertex.false start end c.if-past.false,
       start,
       end,
-      c.if-end-start.false,
-      c.if-targets-end.false,
+      c.if-past.false,
     )

@@ -7,12 +7,14 @@ use lib.ListN.{length, take, drop}
 use borrow.Author.Rules.{part_to_end}
 use Rattle.graph.specs.File.{word}
 use Rattle.graph.proofs.WordRuns.{count_as}
-use Rattle.model.specs.Call.{Outcome, outcome_of_search}
+use Rattle.model.specs.Call.{Outcome, outcome_of_search, plays}
 use Rattle.report.specs.Input.{program_vertices, events_in, file_in, program_lists}
 use Rattle.report.specs.Respond.{searched}
 use Rattle.report.proofs.InputFacts.{SizesPassed, own_passed, file_as}
-use Rattle.report.proofs.RespondFacts.{answer_plays, events_part, searched_as, search_and_print_line, search_and_print_lines}
+use Rattle.report.proofs.RespondFacts.{plays_success, plays_unfinished, plays_neither, events_part, searched_as, search_and_print_line, search_and_print_lines}
 use Rattle.report.proofs.program.search_and_print.Goals.{After-search-found, After-word-start, Start}
+use Rattle.report.proofs.program.search_and_print.Goals.{then-finished-via-then-finished, then-finished-via-else-finished+then-number-eq-UNFINISHED}
+use Rattle.std.proofs.Common.{◌≡◌, true}
 use Rattle.report.proofs.program.search_and_print.Goals as goal
 
 -- the input passes the program's own order
@@ -76,12 +78,12 @@ told c =
 pub put_first_line-next-requires : goal.put_first_line-next-requires
 put_first_line-next-requires c = omega (arith, c.requires.output_places_in_bounds)
 
-pub word-requires-then-played : goal.word-requires-then-played
-word-requires-then-played c = omega (arith, (passes (goal.at.word-requires-then-played c).Start).four, ap length (same_file (goal.at.word-requires-then-played c).After-search-found))
+pub word-requires-then-finished : goal.word-requires-then-finished
+word-requires-then-finished c = omega (arith, (passes (goal.at.word-requires-then-finished c).Start).four, ap length (same_file (goal.at.word-requires-then-finished c).After-search-found))
 
 pub put_vertex_lines-requires : goal.put_vertex_lines-requires
 put_vertex_lines-requires c =
-    let few : c.word-then-played.result ≤ program_vertices = few-vertices (goal.at.put_vertex_lines-requires c).After-search-found c.word-then-played.ensures.value in
+    let few : c.word-then-finished.result ≤ program_vertices = few-vertices (goal.at.put_vertex_lines-requires c).After-search-found c.word-then-finished.ensures.value in
     let short : c.put_first_line-next.result ≤ 84 = c.put_first_line-next.ensures.upper_bound in
     record {
       n_in_bounds = omega (arith, few, short, c.requires.output_places_in_bounds);
@@ -90,17 +92,22 @@ put_vertex_lines-requires c =
       n_in_bounds_3 = omega (arith, few, c.search-found.auto.parents);
     }
 
-pub returns-then-played : goal.returns-then-played
+pub returns-then-finished : goal.returns-then-finished
 unfolding program_lists
-returns-then-played c =
-    let s = (goal.at.returns-then-played c).After-search-found in
+returns-then-finished c =
+    let s = (goal.at.returns-then-finished c).After-search-found in
+    let played : plays c.number-number.result ≡ true =
+    elim c.then-finished.branch [
+      | then-finished-via-then-finished w ↦ plays_success w.if-finished.true
+      | then-finished-via-else-finished+then-number-eq-UNFINISHED w ↦ plays_unfinished w.if-finished.false w.if-number-eq-UNFINISHED.true
+    ] in
     search_and_print_lines (input_of s) c.args.output.now (told s c.search-found.ensures.values_after)
-    (answer_plays c.search-found.result ∙ sym c.is_ok-played.ensures.value ∙ c.if-played.true)
-    (count_as (same_file s) c.word-then-played.ensures.value) c.put_first_line-next.ensures.prints c.put_vertex_lines.ensures
+    (ap plays (sym c.number-number.ensures) ∙ played)
+    (count_as (same_file s) c.word-then-finished.ensures.value) c.put_first_line-next.ensures.prints c.put_vertex_lines.ensures
 
 pub returns : goal.returns
 unfolding program_lists
 returns c =
     let s = (goal.at.returns c).After-search-found in
     search_and_print_line (input_of s) c.args.output.now (told s c.search-found.ensures.values_after)
-    (answer_plays c.search-found.result ∙ sym c.is_ok-played.ensures.value ∙ c.if-played.false) c.put_first_line-next.ensures.prints
+    (ap plays (sym c.number-number.ensures) ∙ plays_neither c.if-finished.false c.if-number-eq-UNFINISHED.false) c.put_first_line-next.ensures.prints

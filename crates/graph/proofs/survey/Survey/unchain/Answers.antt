@@ -1,13 +1,12 @@
 -- `graph::survey::Survey::unchain` meets its contract: the walk that ranks starts from zeros, what it finds decides whether rows are written, and zeros
 -- laid over what it leaves are zeros laid over what was there before.
 use borrow.Author.Tests.{ne_eqb}
-use mathlib.Core.Path.{◌≡◌, refl, sym, ap, ◌∙◌}
+use mathlib.Core.Path.{◌≡◌, sym, ap, ◌∙◌}
 use mathlib.Core.Bool.{cond}
 use mathlib.Core.List.{List}
 use Prim.Native.Nat.{ℕ}
 use native.Mathlib.Nat.{le_of_eq}
 use lib.ListN.{length, get_or, drop, replicate, length-replicate}
-use Rattle.numbers.proofs.Numbering.{whole_told, broken_told}
 use Rattle.lists.specs.Lists.{overlay}
 use Rattle.lists.proofs.Overlay.{drop_overlay, overlay_kept, overlay_zeros}
 use Rattle.numbers.specs.Told.{told}
@@ -44,10 +43,10 @@ returns c =
     × (c.if-whole.targets ≡ cond (writes_rows number) (overlay (targets_of (graph_of c.args.self.now.file.now)) c.args.targets.now) c.args.targets.now) =
     elim c.if-whole.branch [
       | then-whole w ↦
-          let zero = whole_told _ _ c.rank-ranked.result (sym c.eq-whole.ensures ∙ w.if-whole.true) in
+          let zero = sym c.told-number.ensures ∙ w.if-whole.true in
           (written number _ _ zero (w.offsets-is ∙ w.write_offsets.ensures), written number _ _ zero (w.targets-is ∙ w.write_targets.ensures))
       | else-whole w ↦
-          let other = broken_told _ _ c.rank-ranked.result refl (sym c.eq-whole.ensures ∙ w.if-whole.false) in
+          let other = λ (e : number ≡ 0). w.if-whole.false (c.told-number.ensures ∙ e) in
           (unwritten number _ _ other w.offsets-is, unwritten number _ _ other w.targets-is)
     ] in record {
       judged = c.rank-ranked.ensures.value;
