@@ -2,33 +2,14 @@
 // long the two buffers are.
 #![tactic(auto)]
 
-ghost use Rattle.std.specs.Prelude.{◌≤◌, length, IfOk};
-
 use std::io;
-use std::io::Read;
 
-// Reads until the buffer is full or the input ends, and answers how many bytes came. Each read asks for all
-// that is left of the buffer, and one that fails ends the program. It is no `io::copy`: that promises nothing
-// of standard input, asks for less at a time, and tries an interrupted read again. `hoppage` has this function and
-// these lines with its own sizes.
-fn fill<R: Read>(input: &mut R, buffer: &mut [u8]) -> io::Result<usize>
-    ensures { IfOk result (λ count. count ≤ length buffer.new) }
-{
-    let mut count = 0;
-    while count < buffer.len() {
-        let more = input.read(&mut buffer[count..])?;
-        if more == 0 {
-            break;
-        }
-        count += more;
-    }
-    Ok(count)
-}
-
+// Reads, answers, and writes. `hoppage` has these lines with its own sizes: one function of both would take two
+// const parameters and the answer as a closure, to save four lines.
 fn main(rt: HostRuntime) -> io::Result<()> {
     let mut input = [0u8; report::INPUT_PLACES];
     let mut output = [0u8; report::OUTPUT_PLACES];
-    let length = fill(&mut rt.stdin(), &mut input)?;
+    let length = intake::fill(&mut rt.stdin(), &mut input)?;
     let count = report::respond_in(&input, length, &mut output);
     rt.write_all(&output[..count])
 }

@@ -13,7 +13,7 @@ const VERTEX_KINDS: u16 = 15;
 
 const EDGE_KINDS: u16 = 3;
 
-// The kind of a vertex that asks for edges: its parent is looked for there alone.
+// The kind of a vertex's change that asks for edges.
 const UNLINKED: u16 = 14;
 
 // The new labels of a vertex.
@@ -50,6 +50,14 @@ impl Drawn<'_> {
         found.unwrap_or(UNSET)
     }
 
+    // The same for the kind that asks for edges; for the others, which have no use for it, unset.
+    fn unlinked_for(self, kind: u16, vertex: u16, start: u16) -> u16 {
+        match kind {
+            UNLINKED => self.unlinked(vertex, start),
+            _ => UNSET,
+        }
+    }
+
     // A change of a vertex's labels: of the distance, of the parent, of both.
     fn of_vertex(self, case: u16, parents: &[u16]) -> Change {
         let Plan {
@@ -63,11 +71,7 @@ impl Drawn<'_> {
         let parent = at(parents, vertex);
         let kind = case % VERTEX_KINDS;
         let drawn = below(next(seed.wrapping_add(u64::from(case))), vertices);
-        let unlinked = if kind == UNLINKED {
-            self.unlinked(vertex, drawn)
-        } else {
-            UNSET
-        };
+        let unlinked = self.unlinked_for(kind, vertex, drawn);
         let kinds = [
             // Another distance: one more, one less, unset, 65,534, 0, a number below n.
             (old.wrapping_add(1), parent),

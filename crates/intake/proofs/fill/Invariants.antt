@@ -1,6 +1,6 @@
 -- What was read stands within the buffer, which keeps its length. The measure is the places that are left.
 use Rattle.std.proofs.Common.{length, ◌-◌, ◌≤◌, ◌≡◌}
-use Rattle.hopmap.proofs.fill.Given as goal
+use Rattle.intake.proofs.fill.Given as goal
 
 abbrev pub invariant-loop-count : goal.invariant-loop-count
 invariant-loop-count g l = (l.count ≤ length l.buffer) × (length l.buffer ≡ length l.initial.buffer)
